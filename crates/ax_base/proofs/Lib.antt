@@ -1,0 +1,5 @@
+pub mod OutsideLemmas
+pub mod NumberLemmas
+pub mod WordLemmas
+pub mod WindowLemmas
+pub mod PieceLemmas

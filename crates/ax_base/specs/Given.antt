@@ -1,0 +1,58 @@
+-- What a call of `next` answers.
+use Rattle.std.specs.Prelude.{◌≡◌, ◌+◌, ◌≤◌, ◌<◌, ℕ, List, [], ◌∷◌, ◌++◌, length, true, false, Option, Some, None, Result, Ok, Err, ◌⊎◌}
+use Rattle.std.specs.Io.KnownBytes.{Consumes}
+use Rattle.ax_base.specs.Pieces.{Piece, Whole, pieces_of}
+use Rattle.ax_base.specs.Pieces as piece
+use Rattle.ax_base.specs.Reader.{Reader}
+use Rattle.ax_base.specs.Lines.{no_feed, BeginsTooLong, BeginsTooMuch}
+use Rattle.ax_base.specs.declared.lines.Line.{Line}
+use Rattle.ax_base.specs.declared.lines.LineFault.{LineFault}
+use Rattle.ax_base.specs.declared.lines.LineFault.TheVariants as fault
+
+-- the pieces that lie before a reader whose source has these bytes left
+abbrev pub ahead : Reader → List ℕ → List Piece
+ahead r left = pieces_of r.limit (r.held ++ left)
+
+-- the answer and the pieces after it are the pieces before it; `rest` is all bytes still to come
+abbrev pub Gives : List Piece → List Piece → List ℕ → Result (Option Line) LineFault → Type 0
+Gives before after rest (Ok (Some line)) = before ≡ Whole line.text ∷ after
+Gives before after rest (Ok None) = (before ≡ []) × (after ≡ []) × (rest ≡ [])
+Gives before after rest (Err fault.Read) = before ≡ after
+Gives before after rest (Err (fault.TooLong n)) = before ≡ piece.TooLong ∷ []
+Gives before after rest (Err (fault.TooMuch n)) = before ≡ piece.TooMuch ∷ []
+Gives before after rest (Err fault.NoMemory) = Unit {0}
+
+-- a line of these bytes: its line feed follows, or the bytes end with it
+abbrev pub Ends : Reader → List ℕ → List ℕ → Reader → Type 0
+Ends old bytes text new =
+    ((bytes ≡ text ++ 10 ∷ new.held) × (length text + 1 + new.limit ≡ old.limit))
+    ⊎ ((bytes ≡ text) × (new.held ≡ []) × (0 < length text) × (length text + new.limit ≡ old.limit))
+
+-- what the bytes that a reader held or read show, whether or not its source tells what is left
+abbrev pub Shows : Reader → List ℕ → Reader → Result (Option Line) LineFault → Type 0
+Shows old bytes new (Ok (Some line)) = (no_feed line.text ≡ true) × (length line.text ≤ 65536) × Ends old bytes line.text new
+Shows old bytes new (Ok None) = (bytes ≡ []) × (new.held ≡ [])
+Shows old bytes new (Err fault.Read) = new.held ≡ bytes
+Shows old bytes new (Err (fault.TooLong n)) = BeginsTooLong bytes old.limit
+Shows old bytes new (Err (fault.TooMuch n)) = BeginsTooMuch bytes old.limit
+Shows old bytes new (Err fault.NoMemory) = Unit {0}
+
+-- the answer follows from the bytes held before and those read in this call
+abbrev pub ReadsMore : Option (List ℕ) → Option (List ℕ) → Reader → Reader → Result (Option Line) LineFault → Type 0
+ReadsMore left left' old new result = (more : List ℕ) × Consumes left left' more × Shows old (old.held ++ more) new result
+
+-- numbers rise by one, the limit falls by what was given, and a fault is the last answer
+abbrev pub Advances : Reader → Reader → Result (Option Line) LineFault → Type 0
+Advances old new (Ok (Some line)) = (line.number ≡ old.number + 1) × (new.number ≡ old.number + 1) × (new.limit < old.limit) × (length line.text + new.limit ≤ old.limit) × (new.failed ≡ false)
+Advances old new (Ok None) = (new.number ≡ old.number) × (new.limit ≡ old.limit) × (new.failed ≡ false)
+Advances old new (Err fault.Read) = (new.number ≡ old.number) × (new.limit ≡ old.limit) × (new.failed ≡ true)
+Advances old new (Err (fault.TooLong n)) = (n ≡ old.number + 1) × (new.failed ≡ true)
+Advances old new (Err (fault.TooMuch n)) = (n ≡ old.number + 1) × (new.failed ≡ true)
+Advances old new (Err fault.NoMemory) = new.failed ≡ true
+
+abbrev pub IsReadFault : Result (Option Line) LineFault → Type 0
+IsReadFault (Ok o) = ⊥
+IsReadFault (Err fault.Read) = Unit {0}
+IsReadFault (Err (fault.TooLong n)) = ⊥
+IsReadFault (Err (fault.TooMuch n)) = ⊥
+IsReadFault (Err fault.NoMemory) = ⊥

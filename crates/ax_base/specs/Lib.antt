@@ -1,0 +1,9 @@
+pub mod formers
+pub mod Outside
+pub mod Sinks
+pub mod Numbers
+pub mod Words
+pub mod Pieces
+pub mod Lines
+pub mod Given
+pub mod Reader

@@ -1,0 +1,95 @@
+//! Where bytes come from and where they go.
+ghost use Rattle.std.specs.Prelude.{◌≡◌, ◌≤◌, ◌<◌, ℕ, List, Option, length, take, drop, IfOk, OnOk, OnErr, MatchResult};
+ghost use Rattle.std.specs.Io.KnownBytes.{Consumes, Appends, Keeps, IsAtEnd};
+ghost use Rattle.ax_base.specs.Outside.{Rose, HasCause, AppendsPart};
+
+use thiserror::Error;
+
+/// Want of memory. It may come at any call that can answer it, and the value that the call was to
+/// change is as before, unless the call says otherwise.
+#[derive(Clone, Copy, Debug, PartialEq, Eq, Error)]
+#[error("memory was short")]
+pub struct NoMemory;
+
+/// A source could not be read. The bytes still to come are as before.
+#[derive(Clone, Copy, Debug, PartialEq, Eq, Error)]
+#[error("the input could not be read")]
+pub struct Failed;
+
+/// Why a sink took nothing. What it took before stays as it was.
+#[derive(Clone, Copy, Debug, PartialEq, Eq, Error)]
+pub enum SinkFault {
+    /// It could not be written to.
+    #[error("the output could not be written")]
+    Failed,
+    /// Memory was short.
+    #[error("memory was short")]
+    NoMemory,
+}
+
+/// Where bytes come from.
+pub trait Source {
+    /// The bytes still to come, where it tells them.
+    ghost left: { Self → Option (List ℕ) };
+
+    /// How often a read failed. The count never falls.
+    ghost faults: { Self → ℕ };
+
+    /// Reads at least one byte into the front of `buf`, and says how many; the rest of `buf` is
+    /// unchanged. `Ok(0)` is the end. Condition: `buf` is not empty.
+    ///
+    /// `Failed` comes only where `faults` rose; the bytes still to come are then as before.
+    fn read(&mut self, buf: &mut [u8]) -> Result<usize, Failed>
+        requires { 0 < length buf.old }
+        ensures bound { IfOk result (λ n. n ≤ length buf.old) }
+        ensures taken { IfOk result (λ n. Consumes (left self.old) (left self.new) (take n buf.new)) }
+        ensures rest { IfOk result (λ n. drop n buf.new ≡ drop n buf.old) }
+        ensures end { IfOk result (λ n. n ≡ 0 → IsAtEnd (left self.old)) }
+        ensures kept { OnErr result (Keeps (left self.old) (left self.new)) }
+        ensures count { faults self.old ≤ faults self.new }
+        ensures cause { OnErr result (Rose (faults self.old) (faults self.new)) };
+}
+
+/// Where bytes go.
+pub trait Sink {
+    /// The bytes taken so far, where it tells them.
+    ghost holds: { Self → Option (List ℕ) };
+
+    /// How often a write failed. The count never falls.
+    ghost faults: { Self → ℕ };
+
+    /// How often memory was short. The count never falls.
+    ghost short: { Self → ℕ };
+
+    /// Takes at least one byte from the front of `piece`, and says how many. Condition: `piece` is
+    /// not empty.
+    ///
+    /// `Failed` comes only where `faults` rose, and `NoMemory` only where `short` rose. After
+    /// either nothing was taken.
+    fn write(&mut self, piece: &[u8]) -> Result<usize, SinkFault>
+        requires { 0 < length piece.now }
+        ensures some { IfOk result (λ n. 0 < n) }
+        ensures bound { IfOk result (λ n. n ≤ length piece.now) }
+        ensures taken { IfOk result (λ n. Appends (holds self.old) (holds self.new) (take n piece.now)) }
+        ensures kept { OnErr result (Keeps (holds self.old) (holds self.new)) }
+        ensures count { faults self.old ≤ faults self.new }
+        ensures short_count { short self.old ≤ short self.new }
+        ensures cause { HasCause (faults self.old) (faults self.new) (short self.old) (short self.new) result };
+}
+
+/// Writes all of the bytes, in as many writes as it needs. It takes no memory of its own.
+///
+/// After a fault of the sink, which it hands on, the sink took a proper prefix of the bytes.
+pub fn write_all<K: Sink>(out: &mut K, bytes: &[u8]) -> Result<(), SinkFault>
+    ensures all { OnOk result (Appends (K.holds out.old) (K.holds out.new) bytes.now) }
+    ensures part { OnErr result (AppendsPart (K.holds out.old) (K.holds out.new) bytes.now) }
+    ensures count { K.faults out.old ≤ K.faults out.new }
+    ensures short_count { K.short out.old ≤ K.short out.new }
+    ensures cause { HasCause (K.faults out.old) (K.faults out.new) (K.short out.old) (K.short out.new) result }
+{
+    let mut done = 0;
+    while done < bytes.len() {
+        done += out.write(&bytes[done..])?;
+    }
+    Ok(())
+}

@@ -1,0 +1,98 @@
+//! A reader as a source, and a writer as a sink.
+ghost use Rattle.std.specs.Prelude.{◌≡◌};
+
+use crate::outside::{Failed, Sink, SinkFault, Source};
+use std::io::{Read, Write};
+use std::marker::Model;
+
+/// A reader as a source.
+///
+/// A read that is answered by an error counts as a fault. The count stands still at `2^64 - 1`.
+#[derive(Drop)]
+pub struct ReadSource<R: Read> {
+    inner: R,
+    faults: u64,
+}
+
+impl<R: Read> Model for ReadSource<R> {
+    ghost use Rattle.ax_base.specs.Sinks.{Counted};
+
+    ghost Value = { Counted };
+
+    ghost view = { λ s. record { bytes = R.remaining s.inner; faults = s.faults } };
+}
+
+impl<R: Read> ReadSource<R> {
+    /// The source that reads from this reader.
+    pub fn new(inner: R) -> ReadSource<R>
+        ensures { result ≡ record { bytes = R.remaining inner; faults = 0 } }
+    {
+        ReadSource { inner, faults: 0 }
+    }
+}
+
+impl<R: Read> Source for ReadSource<R> {
+    ghost left = { λ s. s.bytes };
+
+    ghost faults = { λ s. s.faults };
+
+    fn read(&mut self, buf: &mut [u8]) -> Result<usize, Failed> {
+        let mut own = [0u8; 8192];
+        let most = buf.len().min(8192);
+        match self.inner.read(&mut own[..most]) {
+            Ok(n) => {
+                buf[..n].copy_from_slice(&own[..n]);
+                Ok(n)
+            }
+            Err(_) => {
+                self.faults = self.faults.saturating_add(1);
+                Err(Failed)
+            }
+        }
+    }
+}
+
+/// A writer as a sink. It never lacks memory.
+///
+/// A write that is answered by an error, or that takes nothing, counts as a fault. The count
+/// stands still at `2^64 - 1`.
+#[derive(Drop)]
+pub struct WriteSink<W: Write> {
+    inner: W,
+    faults: u64,
+}
+
+impl<W: Write> Model for WriteSink<W> {
+    ghost use Rattle.ax_base.specs.Sinks.{Counted};
+
+    ghost Value = { Counted };
+
+    ghost view = { λ s. record { bytes = W.contents s.inner; faults = s.faults } };
+}
+
+impl<W: Write> WriteSink<W> {
+    /// The sink that writes to this writer.
+    pub fn new(inner: W) -> WriteSink<W>
+        ensures { result ≡ record { bytes = W.contents inner; faults = 0 } }
+    {
+        WriteSink { inner, faults: 0 }
+    }
+}
+
+impl<W: Write> Sink for WriteSink<W> {
+    ghost holds = { λ s. s.bytes };
+
+    ghost faults = { λ s. s.faults };
+
+    ghost short = { λ s. 0 };
+
+    fn write(&mut self, piece: &[u8]) -> Result<usize, SinkFault> {
+        match self.inner.write(piece) {
+            Ok(n) if n > 0 => Ok(n),
+            _ => {
+                self.faults = self.faults.saturating_add(1);
+                Err(SinkFault::Failed)
+            }
+        }
+    }
+}
