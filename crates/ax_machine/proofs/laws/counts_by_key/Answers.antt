@@ -1,0 +1,7 @@
+use Rattle.std.proofs.Common.{refl}
+use Rattle.ax_text.specs.Exprs.{apply_op}
+use Rattle.ax_machine.proofs.laws.counts_by_key.Goals as goal
+
+pub returns : goal.returns
+unfolding apply_op
+returns c = refl
