@@ -1,0 +1,155 @@
+//! Keys.
+ghost use Rattle.std.specs.Prelude.{◌≡◌, ◌&&◌, nat_le, nat_eq, length, true, false, IfOk, MatchOption, Some, refl};
+ghost use Rattle.std.specs.List.{list_all};
+ghost use Rattle.std.specs.Ordering.{nat_cmp};
+ghost use Rattle.std.specs.Cmp.{partial_equiv_from_equiv};
+ghost use Rattle.std.specs.Cmp.Lexicographic.{pointwise, slice_cmp, nat_list_eq_equiv, nat_list_cmp_total, texts_ties, texts_po};
+ghost use Rattle.ax_keys.specs.Keys.{is_key, is_key_byte};
+
+use ax_base::{Duplicate, NoMemory};
+use std::alloc::Global;
+use std::cmp::Ordering;
+use std::convert::AsStr;
+use std::marker::Model;
+
+/// A key: 1 to 256 printing bytes from 0x21 to 0x7E. Contracts see it as its bytes. Keys are equal
+/// where their bytes are, and ordered by their bytes: a key comes before those that it begins.
+#[derive(Debug, Drop)]
+pub struct Key {
+    text: String,
+}
+
+impl Model for Key {
+    ghost use Rattle.std.specs.Prelude.{◌≡◌, ℕ, List, true, string_bytes};
+    ghost use Rattle.ax_keys.specs.Keys.{is_key};
+
+    ghost Value = { List ℕ };
+
+    ghost view = { λ k. string_bytes k.text };
+
+    ghost invariant = { λ k. is_key (string_bytes k.text) ≡ true };
+}
+
+// Whether a byte prints and is no space.
+fn is_key_byte(b: u8) -> bool
+    ensures { result ≡ is_key_byte b }
+{
+    b >= 33 && b <= 126
+}
+
+// Whether a word is 1 to 256 bytes long.
+fn has_key_length(word: &[u8]) -> bool
+    ensures { result ≡ (nat_le 1 (length word.now) && nat_le (length word.now) 256) }
+{
+    word.len() >= 1 && word.len() <= 256
+}
+
+// Whether each byte of a word may stand in a key.
+fn has_key_bytes(word: &[u8]) -> bool
+    ensures { result ≡ list_all is_key_byte word.now }
+{
+    word.iter().all(|b| is_key_byte(*b))
+}
+
+// Whether a word is a key.
+fn is_key(word: &[u8]) -> bool
+    ensures { result ≡ is_key word.now }
+{
+    has_key_length(word) && has_key_bytes(word)
+}
+
+// A word as text, where it is a key.
+#[tactic(auto, using(crate::proofs::KeyLemmas::key_is_utf8))]
+fn key_text(word: &[u8]) -> Option<&str>
+    ensures { MatchOption result (is_key word.now ≡ false) (λ text. (text.now ≡ word.now) × (is_key word.now ≡ true)) }
+{
+    if !is_key(word) {
+        return None;
+    }
+    std::str::from_utf8(word).ok()
+}
+
+impl Key {
+    /// The key that a word is, and `None` exactly where it is none. The only fault is `NoMemory`.
+    pub fn read(alloc: Global, word: &[u8]) -> Result<Option<Key>, NoMemory>
+        ensures { IfOk result (λ key. MatchOption key (is_key word.now ≡ false) (λ k. (k ≡ word.now) × (is_key word.now ≡ true))) }
+    {
+        let Some(text) = key_text(word) else {
+            return Ok(None);
+        };
+        match String::from_str(alloc, text) {
+            Ok(text) => Ok(Some(Key { text })),
+            Err(_) => Err(NoMemory),
+        }
+    }
+
+    /// The bytes of the key.
+    pub fn as_bytes(&self) -> &[u8]
+        ensures value { result.now ≡ self.now }
+        ensures key { is_key self.now ≡ true }
+    {
+        self.text.as_bytes()
+    }
+
+    /// The key as text, of which the bytes are those of the key.
+    pub fn as_text(&self) -> &str
+        ensures { result.now ≡ self.now }
+    {
+        self.text.as_str()
+    }
+}
+
+impl Duplicate for Key {
+    fn copy(&self, alloc: Global) -> Result<Key, NoMemory> {
+        match String::from_str(alloc, self.text.as_str()) {
+            Ok(text) => Ok(Key { text }),
+            Err(_) => Err(NoMemory),
+        }
+    }
+}
+
+impl AsStr for Key {
+    ghost text = { λ key. key };
+
+    fn as_str(&self) -> &str {
+        self.as_text()
+    }
+}
+
+impl PartialEq for Key {
+    ghost eq = { pointwise nat_eq };
+
+    ghost laws = { partial_equiv_from_equiv nat_list_eq_equiv };
+
+    fn eq(&self, other: &Key) -> bool {
+        self.as_text() == other.as_text()
+    }
+}
+
+impl Eq for Key {
+    ghost laws = { nat_list_eq_equiv };
+}
+
+impl PartialOrd for Key {
+    ghost partial_cmp = { λ a b. Some (slice_cmp nat_cmp a b) };
+
+    ghost laws = { texts_po };
+
+    fn partial_cmp(&self, other: &Key) -> Option<Ordering> {
+        Some(self.cmp(other))
+    }
+}
+
+impl Ord for Key {
+    ghost cmp = { slice_cmp nat_cmp };
+
+    ghost total = { nat_list_cmp_total };
+
+    ghost matches_partial_cmp = { λ a b. refl };
+
+    ghost matches_eq = { texts_ties };
+
+    fn cmp(&self, other: &Key) -> Ordering {
+        self.as_text().cmp(other.as_text())
+    }
+}

@@ -1,0 +1,4 @@
+pub mod Decls
+pub mod Fits
+pub mod Held
+pub mod KeyCells
