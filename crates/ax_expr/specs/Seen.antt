@@ -1,0 +1,12 @@
+-- The expression that a tree of the code stands for.
+use Rattle.ax_text.specs.Exprs.{Expr, Leaf, Join}
+use Rattle.ax_expr.specs.declared.tree.Expr.{Expr as Code, fold-Expr}
+use Rattle.ax_expr.specs.declared.tree.Expr.TheOpen.{Expr-F}
+use Rattle.ax_expr.specs.declared.tree.Expr.TheOpen as e
+
+abbrev pub seen_level : Expr-F Expr → Expr
+seen_level (e.Leaf a) = Leaf a
+seen_level (e.Join o a b) = Join o a b
+
+unfoldable pub seen : Code → Expr
+seen code = fold-Expr Expr seen_level code

@@ -1,0 +1,18 @@
+-- How the grammar spells an expression: a comparison joins sums, a sum products, a product atoms, all to the left.
+use Rattle.std.specs.Prelude.{◌≡◌, ℕ, ◌+◌, List, [], ◌∷◌, ◌++◌, Bool, Some, nat_le, if◌then◌else◌}
+use Rattle.ax_expr.specs.declared.tree.Mark.{Mark}
+use Rattle.ax_expr.specs.declared.tree.Mark.TheVariants.{Operand, Open, Close, Sign}
+use Rattle.ax_text.specs.Exprs.{Expr, Leaf, Join}
+use Rattle.ax_expr.specs.Levels.{level_of}
+use Rattle.ax_expr.specs.Reading.{tree_of}
+
+abbrev pub bracketed : Bool → List Mark → List Mark
+bracketed b ms = if b then ms else Open ∷ (ms ++ Close ∷ [])
+
+-- where only what binds at least so tightly may stand bare
+abbrev pub spelled : ℕ → Expr → List Mark
+spelled n (Leaf a) = Operand a ∷ []
+spelled n (Join o a b) = bracketed (nat_le n (level_of o)) (spelled (level_of o) a ++ (Sign o ∷ spelled (level_of o + 1) b))
+
+abbrev pub ReadsBack : Expr → Type 0
+ReadsBack t = tree_of (spelled 1 t) ≡ Some t

@@ -1,0 +1,16 @@
+//! Expressions: their trees, how they are read from marks, and their value.
+//!
+//! A tree here stands for an expression of the definitions; `seen` says which.
+#![tactic(auto)]
+
+pub mod laws;
+pub mod read;
+#[cfg(test)]
+mod tests;
+pub mod tree;
+pub mod value;
+
+pub use laws::{refusal_law, spelling_law, tree_law};
+pub use read::{Refusal, read_expr};
+pub use tree::{Expr, Mark};
+pub use value::Scope;

@@ -1,0 +1,163 @@
+//! Expressions from their marks.
+ghost use Rattle.std.specs.Prelude.{◌≡◌, List, [], ◌∷◌, IfOk, OnOk};
+ghost use Rattle.ax_text.specs.Exprs.{Join as TreeJoin};
+ghost use Rattle.ax_expr.specs.declared.tree.Mark.{Mark as AnyMark};
+ghost use Rattle.ax_expr.specs.Levels.{level_of};
+ghost use Rattle.ax_expr.specs.Seen.{seen};
+ghost use Rattle.ax_expr.specs.Reading.{joined, tree_of, walk, stack_of, seen_some, seen_waiting, Steps, Reads, Tightens, OnlyMemory};
+
+use crate::tree::{Expr, Mark};
+use ax_text::Op;
+use sqlite_items::Boxed;
+use std::alloc::Global;
+
+/// Why there is no expression.
+#[derive(Clone, Copy, Debug, PartialEq, Eq)]
+pub enum Refusal {
+    /// There was no memory for the tree.
+    NoMemory,
+    /// The marks are no expression: a mark stands where none of its kind may, a parenthesis has no partner, or the
+    /// expression stops short.
+    Word,
+}
+
+// What stands on the left of an operand that is still read.
+#[derive(Drop)]
+enum Pending {
+    Open,
+    Before(Expr, Op),
+}
+
+// How tightly a sign binds.
+fn level_of(op: Op) -> u8
+    ensures { result ≡ level_of op }
+{
+    match op {
+        Op::Less | Op::AtMost | Op::Equal | Op::Differs | Op::AtLeast | Op::Greater => 1,
+        Op::Add | Op::Subtract => 2,
+        Op::Multiply | Op::Divide | Op::Remainder => 3,
+    }
+}
+
+#[tactic(auto, using(crate::proofs::SeenLemmas::seen_join))]
+fn join(alloc: Global, op: Op, left: Expr, right: Expr) -> Result<Expr, Refusal>
+    ensures memory { OnlyMemory result }
+    ensures value { IfOk result (λ x. seen x ≡ TreeJoin op (seen left) (seen right)) }
+{
+    let Ok(left) = Boxed::new(alloc, left) else {
+        return Err(Refusal::NoMemory);
+    };
+    let Ok(right) = Boxed::new(alloc, right) else {
+        return Err(Refusal::NoMemory);
+    };
+    Ok(Expr::Join(op, left, right))
+}
+
+// Joins an operand with what stands on its left and binds at least as tightly.
+#[tactic(auto, using(crate::proofs::SeenLemmas::stack_of_append))]
+fn tighten(
+    alloc: Global,
+    level: u8,
+    operand: Expr,
+    waiting: &mut Vec<Pending>,
+) -> Result<Expr, Refusal>
+    ensures { Tightens (joined level (seen operand) (stack_of waiting.old.items)) (stack_of waiting.new.items) result }
+{
+    let mut value = operand;
+    'reduce: loop {
+        match waiting.pop() {
+            Some(Pending::Before(left, op)) => {
+                if level <= level_of(op) {
+                    value = join(alloc, op, left, value)?;
+                } else {
+                    put_last(waiting, Pending::Before(left, op))?;
+                    return Ok(value);
+                }
+            }
+            Some(Pending::Open) => {
+                put_last(waiting, Pending::Open)?;
+                return Ok(value);
+            }
+            None => return Ok(value),
+        }
+    }
+}
+
+// Lets one more wait, nearest to the operand to come.
+#[tactic(auto, using(crate::proofs::SeenLemmas::stack_of_append))]
+fn put_last(waiting: &mut Vec<Pending>, last: Pending) -> Result<(), Refusal>
+    ensures memory { OnlyMemory result }
+    ensures value { OnOk result (stack_of waiting.new.items ≡ seen_waiting last ∷ stack_of waiting.old.items) }
+{
+    match waiting.push(last) {
+        Ok(()) => Ok(()),
+        Err(_) => Err(Refusal::NoMemory),
+    }
+}
+
+// Takes one mark: the operand that it ends, if there is one, and what then waits.
+#[tactic(auto, using(crate::proofs::SeenLemmas::stack_of_append, crate::proofs::SeenLemmas::seen_leaf))]
+fn step(
+    alloc: Global,
+    operand: Option<Expr>,
+    waiting: &mut Vec<Pending>,
+    mark: Mark,
+) -> Result<Option<Expr>, Refusal>
+    ensures { (ms : List AnyMark) → Steps (walk (seen_some operand) (stack_of waiting.old.items) (mark ∷ ms)) (λ x. walk x (stack_of waiting.new.items) ms) result }
+{
+    match operand {
+        None => match mark {
+            Mark::Operand(atom) => Ok(Some(Expr::Leaf(atom))),
+            Mark::Open => {
+                put_last(waiting, Pending::Open)?;
+                Ok(None)
+            }
+            Mark::Close | Mark::Sign(_) => Err(Refusal::Word),
+        },
+        Some(x) => match mark {
+            Mark::Operand(_) | Mark::Open => Err(Refusal::Word),
+            Mark::Close => {
+                let value = tighten(alloc, 0, x, waiting)?;
+                match waiting.pop() {
+                    Some(Pending::Open) => Ok(Some(value)),
+                    _ => Err(Refusal::Word),
+                }
+            }
+            Mark::Sign(op) => {
+                let left = tighten(alloc, level_of(op), x, waiting)?;
+                put_last(waiting, Pending::Before(left, op))?;
+                Ok(None)
+            }
+        },
+    }
+}
+
+/// Reads an expression from its marks, all of them. `*`, `/` and `%` bind most tightly, then `+` and `-`, then the
+/// comparisons; signs that bind equally join to the left.
+///
+/// Marks that are no expression give `Word` where there is memory, and others never do. After an `Err` nothing is kept.
+pub fn read_expr(alloc: Global, marks: &[Mark]) -> Result<Expr, Refusal>
+    ensures { Reads (tree_of marks.now) result }
+{
+    let mut waiting = Vec::new(alloc);
+    let mut operand = None;
+    for mark in marks {
+        operand = step(alloc, operand, &mut waiting, *mark)?;
+    }
+    finish(alloc, operand, waiting)
+}
+
+// At the end everything that waits is joined, and no parenthesis is open.
+#[tactic(auto, using(crate::proofs::SeenLemmas::stack_of_append))]
+fn finish(alloc: Global, operand: Option<Expr>, mut waiting: Vec<Pending>) -> Result<Expr, Refusal>
+    ensures { Reads (walk (seen_some operand) (stack_of waiting.items) []) result }
+{
+    let Some(x) = operand else {
+        return Err(Refusal::Word);
+    };
+    let value = tighten(alloc, 0, x, &mut waiting)?;
+    match waiting.pop() {
+        None => Ok(value),
+        Some(_) => Err(Refusal::Word),
+    }
+}

@@ -1,0 +1,34 @@
+-- What the code holds, as the definitions take it.
+use Rattle.std.specs.Prelude.{Option, Some, None}
+use Rattle.ax_machine.specs.Events.{Event, Row}
+use Rattle.ax_input.specs.OutLines.{OutLine, Out, Mark, Head, Value, Item, Entry, Timer, End}
+use Rattle.ax_input.specs.declared.event.Event.{Event as CodeEvent}
+use Rattle.ax_input.specs.declared.event.Event.TheVariants as event
+use Rattle.ax_input.specs.declared.line.OutLine.{OutLine as CodeLine}
+use Rattle.ax_input.specs.declared.line.OutLine.TheVariants as line
+use Rattle.ax_input.specs.declared.line.SnapLine.{SnapLine}
+use Rattle.ax_input.specs.declared.line.SnapLine.TheVariants as snap
+
+abbrev pub seen_event : CodeEvent → Event
+seen_event (event.Row key time values) = Row key time values
+
+abbrev pub seen_snap : SnapLine → OutLine
+seen_snap (snap.Head id wm) = Head id wm
+seen_snap (snap.Value key state number) = Value key state number
+seen_snap (snap.Item key state number) = Item key state number
+seen_snap (snap.Entry key state at number) = Entry key state at number
+seen_snap (snap.Timer key time) = Timer key time
+seen_snap (snap.End id count) = End id count
+
+abbrev pub seen_line : CodeLine → OutLine
+seen_line (line.Out key values) = Out key values
+seen_line (line.Mark time) = Mark time
+seen_line (line.Snap snap) = seen_snap snap
+
+abbrev pub snap_some : Option SnapLine → Option OutLine
+snap_some None = None
+snap_some (Some l) = Some (seen_snap l)
+
+abbrev pub line_some : Option CodeLine → Option OutLine
+line_some None = None
+line_some (Some l) = Some (seen_line l)

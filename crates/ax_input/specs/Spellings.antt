@@ -1,0 +1,42 @@
+-- How lines are spelled, and which numbers their words are.
+use Rattle.std.specs.Prelude.{ℕ, ℤ, pos, negsuc, ◌^◌, List, [], ◌∷◌, ◌++◌, Bool, Option, Some, None, nat_lt}
+use Rattle.ax_base.specs.Numbers.{number_of}
+use Rattle.ax_syntax.specs.Words.{Word}
+
+-- words, each behind a space
+abbrev pub behind_spaces : List Word → List ℕ
+behind_spaces [] = []
+behind_spaces (w ∷ ws) = 32 ∷ (w ++ behind_spaces ws)
+
+-- words with one space between them
+abbrev pub spaced : List Word → List ℕ
+spaced [] = []
+spaced (w ∷ ws) = w ++ behind_spaces ws
+
+-- a number of 64 bits
+abbrev pub is_number : ℤ → Bool
+is_number (pos n) = nat_lt n (2 ^ 63)
+is_number (negsuc n) = nat_lt n (2 ^ 63)
+
+abbrev pub onto_some : Option ℤ → Option (List ℤ) → Option (List ℤ)
+onto_some (Some n) (Some ns) = Some (n ∷ ns)
+onto_some _ _ = None
+
+-- the numbers that all words are
+abbrev pub numbers_of : List Word → Option (List ℤ)
+numbers_of [] = Some []
+numbers_of (w ∷ ws) = onto_some (number_of w) (numbers_of ws)
+
+-- the number that the one word is
+abbrev pub one_number : List Word → Option ℤ
+one_number (w ∷ []) = number_of w
+one_number _ = None
+
+abbrev pub both : Option ℤ → Option ℤ → Option (ℤ × ℤ)
+both (Some m) (Some n) = Some (m, n)
+both _ _ = None
+
+-- the numbers that the two words are
+abbrev pub two_numbers : List Word → Option (ℤ × ℤ)
+two_numbers [] = None
+two_numbers (w ∷ ws) = both (number_of w) (one_number ws)

@@ -1,0 +1,117 @@
+//! The lines of events.
+ghost use Rattle.std.specs.Prelude.{◌≡◌, ◌∷◌, length};
+ghost use Rattle.ax_base.specs.Words.{words_of};
+ghost use Rattle.ax_input.specs.Events.{is_skipped, row_by, event_of};
+ghost use Rattle.ax_input.specs.Reads.{ReadsEvent, SplitsRow};
+
+use crate::numbers::{has_words, numbers};
+use ax_base::words::first_word;
+use ax_base::{NoMemory, Nums, read_i64};
+use ax_keys::Key;
+use ax_syntax::words::same;
+use std::alloc::Global;
+use thiserror::Error;
+
+/// An event. Watermarks and barriers aren't built yet.
+#[derive(Debug, Drop)]
+pub enum Event {
+    /// A row of a key, with as many values as the program's rows have, at most 16.
+    Row { key: Key, time: i64, values: Nums },
+}
+
+/// Why a line gives no event: its first fault.
+#[derive(Clone, Copy, Debug, PartialEq, Eq, Error)]
+pub enum EventFault {
+    /// The first word begins no event.
+    #[error("the first word begins no event")]
+    Word,
+    /// The key isn't 1 to 256 printing bytes.
+    #[error("the key is none")]
+    Key,
+    /// The time or a value is no number of 64 bits.
+    #[error("a word is no number of 64 bits")]
+    Number,
+    /// There are more words, or fewer, than the event has.
+    #[error("the number of words is wrong")]
+    Count,
+    /// The event isn't built yet: the first word is `w` or `b`.
+    #[error("the event isn't built yet")]
+    Unbuilt,
+    /// Memory was short.
+    #[error("memory was short")]
+    NoMemory,
+}
+
+/// Whether a line is blank or a comment: it has no word, or its first word begins with `#`. It takes no memory.
+pub fn is_skipped(text: &[u8]) -> bool
+    ensures { result ≡ is_skipped text.now }
+{
+    match first_word(text) {
+        None => true,
+        Some((word, _)) => matches!(word, [b'#', ..]),
+    }
+}
+
+// The words of a row behind its first.
+#[derive(Clone, Copy)]
+struct RowWords<'a> {
+    key: &'a [u8],
+    time: &'a [u8],
+    values: &'a [u8],
+}
+
+// The parts of a row with so many values, where it has as many words.
+fn row_words(text: &[u8], fields: u8) -> Option<RowWords<'_>>
+    ensures { SplitsRow fields (words_of text.now) result }
+{
+    let (key, text) = first_word(text)?;
+    let (time, values) = first_word(text)?;
+    if has_words(values, fields) {
+        Some(RowWords { key, time, values })
+    } else {
+        None
+    }
+}
+
+// The row that these words are, behind its first word.
+fn read_row(alloc: Global, text: &[u8], fields: u8) -> Result<Event, EventFault>
+    ensures { ReadsEvent (row_by fields (words_of text.now)) result }
+{
+    let Some(words) = row_words(text, fields) else {
+        return Err(EventFault::Count);
+    };
+    let key = match Key::read(alloc, words.key) {
+        Ok(Some(key)) => key,
+        Ok(None) => return Err(EventFault::Key),
+        Err(NoMemory) => return Err(EventFault::NoMemory),
+    };
+    let Some(time) = read_i64(words.time) else {
+        return Err(EventFault::Number);
+    };
+    match numbers(alloc, words.values, fields) {
+        Ok(Some(values)) => Ok(Event::Row { key, time, values }),
+        Ok(None) => Err(EventFault::Number),
+        Err(NoMemory) => Err(EventFault::NoMemory),
+    }
+}
+
+/// The event of a line, where a row has so many values: `r KEY TIME V1 .. VN`.
+///
+/// Each fault comes exactly where the first fault is of that kind; `NoMemory` is free. They are tried in this order: Word,
+/// Unbuilt, Count, Key, Number. Blank lines and comments are told by `is_skipped`; here they are faults of kind Word.
+#[tactic(auto, unfolding(crate::specs::Events::event_of))]
+pub fn read_event(alloc: Global, text: &[u8], fields: u8) -> Result<Event, EventFault>
+    ensures { ReadsEvent (event_of fields text.now) result }
+{
+    let Some((word, rest)) = first_word(text) else {
+        return Err(EventFault::Word);
+    };
+    if same(word, b"r") {
+        return read_row(alloc, rest, fields);
+    }
+    if same(word, b"w") || same(word, b"b") {
+        Err(EventFault::Unbuilt)
+    } else {
+        Err(EventFault::Word)
+    }
+}

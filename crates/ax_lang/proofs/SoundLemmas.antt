@@ -1,0 +1,322 @@
+-- Lines without fault keep the tables and the rows sound.
+use Rattle.std.proofs.Common.{◌≡◌, ◌∙◌, ℕ, ◌+◌, ◌≤◌, ◌<◌, List, [], ◌∷◌, ◌++◌, map, length, length-append, refl, sym, ap, arith, Bool, true, false, not, ◌&&◌, ◌||◌, nat_le, nat_lt, ◌==◌, Option, Some, None, if◌then◌else◌, is_some}
+use Rattle.std.proofs.lemmas.Option.{none-some}
+use Rattle.std.specs.List.{list_all, list_any}
+use Rattle.std.proofs.lemmas.Bool.{and_parts, and_from, leb-false, lt-ltb, ltb-true, eq-eqb, true≢false, false≢true}
+use Rattle.std.proofs.lemmas.List.{append-nil, length-map}
+use Rattle.std.proofs.lemmas.List.Folds.{list_all-append}
+use Rattle.ax_text.specs.declared.vocabulary.Kind.{Kind}
+use Rattle.ax_text.specs.declared.vocabulary.Kind.TheVariants as kind
+use Rattle.ax_text.specs.Texts as text
+use Rattle.ax_state.specs.declared.decls.Decl.{Decl}
+use Rattle.ax_state.specs.Decls.{kinds}
+use Rattle.ax_state.specs.Fits.{has_kind, same_kind}
+use Rattle.ax_syntax.specs.declared.shape.KindWord.{KindWord}
+use Rattle.ax_syntax.specs.Words.{Word, same_word}
+use Rattle.ax_syntax.specs.Shapes.{Shape}
+use Rattle.ax_syntax.specs.Shapes as shape
+use Rattle.ax_lang.specs.declared.tables.Tables.{Tables}
+use Rattle.ax_lang.specs.Tables.{mem, state_names, is_state, is_new_local, is_statement, is_built, may_stand, is_too_many, has_long_expr, is_twice, has_unknown, has_wrong_kind, fault_by, with_word, after, start}
+use Rattle.ax_lang.specs.Rows.{Row, ActRow, AskRow, index_of, place_or, place_in, row_of}
+use Rattle.ax_lang.specs.Programs.{row_list, fault_in, after_in, rows_in}
+use Rattle.ax_lang.specs.Steps.{row_in, stmt_fits}
+use Rattle.ax_lang.specs.declared.step.Stmt.{Stmt}
+use Rattle.ax_lang.specs.declared.step.Stmt.TheVariants as code
+use Rattle.ax_lang.specs.Sound.{row_fits, SmallInput, Sound}
+
+if_none : (b : Bool) (k : ℕ) (r : Option ℕ) → (if b then Some k else r) ≡ None → (b ≡ false) × (r ≡ None)
+if_none true k r h = absurd (none-some k (sym h))
+if_none false k r h = (refl, h)
+
+not_true : (b : Bool) → not b ≡ true → b ≡ false
+not_true true h = absurd (false≢true h)
+not_true false h = refl
+
+not_false : (b : Bool) → not b ≡ false → b ≡ true
+not_false true h = refl
+not_false false h = absurd (true≢false h)
+
+or_false : (a b : Bool) → (a || b) ≡ false → (a ≡ false) × (b ≡ false)
+or_false true b h = absurd (true≢false h)
+or_false false b h = (refl, h)
+
+abbrev NoFault : Tables → Shape → Type 0
+NoFault t s = record {
+  stands : may_stand t s ≡ true;
+  built : is_built s ≡ true;
+  few : is_too_many t s ≡ false;
+  once : is_twice t s ≡ false;
+  known : has_unknown t s ≡ false;
+  kind : has_wrong_kind t s ≡ false;
+}
+
+no_fault : (t : Tables) (s : Shape) → fault_by t s ≡ None → NoFault t s
+unfolding fault_by
+no_fault t s h =
+    let a = if_none (not (may_stand t s)) 1 _ h in
+    let b = if_none (not (is_built s)) 13 _ a.1 in
+    let c = if_none (is_too_many t s) 8 _ b.1 in
+    let d = if_none (is_twice t s) 3 _ c.1 in
+    let e = if_none (has_unknown t s) 2 _ d.1 in
+    let f = if_none (has_wrong_kind t s) 4 None e.1 in
+    record { stands = not_false (may_stand t s) a.0; built = not_false (is_built s) b.0; few = c.0; once = d.0; known = e.0; kind = f.0 }
+
+same_refl : (w : Word) → same_word w w ≡ true
+same_refl [] = refl
+same_refl (x ∷ xs) = and_from (x == x) (same_word xs xs) (eq-eqb x x refl) (same_refl xs)
+
+or_right : (a b : Bool) → b ≡ true → (a || b) ≡ true
+or_right true b h = refl
+or_right false b h = h
+
+mem_last : (w : Word) (ws : List Word) → mem w (ws ++ w ∷ []) ≡ true
+mem_last w [] = ap (λ (b : Bool). b || false) (same_refl w)
+mem_last w (x ∷ xs) = or_right (same_word x w) (mem w (xs ++ w ∷ [])) (mem_last w xs)
+
+place_below : (n : ℕ) (ws : List Word) (w : Word) → mem w ws ≡ true → place_or (index_of n ws w) < n + length ws
+place_below n [] w h = absurd (false≢true h)
+place_below n (x ∷ xs) w h = cases (λ g. place_below (n + 1) xs w g) (same_word x w) h where
+  cases : (mem w xs ≡ true → place_or (index_of (n + 1) xs w) < n + 1 + length xs) → (b : Bool) → (b || mem w xs) ≡ true → place_or (if b then Some n else index_of (n + 1) xs w) < n + length (x ∷ xs)
+  cases go true g = omega arith
+  cases go false g = let r = go g in omega arith
+
+-- a name that is assigned is a local name from then on
+with_mem : (w : Word) (ws : List Word) → mem w (with_word (Some w) ws) ≡ true
+with_mem w ws = cases (mem w ws) refl where
+  cases : (b : Bool) → mem w ws ≡ b → mem w (if b then ws else (ws ++ w ∷ [])) ≡ true
+  cases true g = g
+  cases false g = mem_last w ws
+
+with_grows : (w : Word) (ws : List Word) → length ws ≤ length (with_word (Some w) ws)
+with_grows w ws = cases (mem w ws) where
+  cases : (b : Bool) → length ws ≤ length (if b then ws else (ws ++ w ∷ []))
+  cases true = omega arith
+  cases false = let e : length (ws ++ w ∷ []) ≡ length ws + 1 = length-append ws (w ∷ []) in omega arith
+
+with_few : (t : Tables) (w : Word) → length t.locals ≤ 256 → (is_new_local t w && nat_le 256 (length t.locals)) ≡ false → is_state t w ≡ false → length (with_word (Some w) t.locals) ≤ 256
+with_few t w h f s = cases (mem w t.locals) refl where
+  cases : (b : Bool) → mem w t.locals ≡ b → length (if b then t.locals else (t.locals ++ w ∷ [])) ≤ 256
+  cases true g = h
+  cases false g =
+      let new : is_new_local t w ≡ true = ap (λ (b : Bool). not (b || is_state t w)) g ∙ ap not s in
+      let room : nat_le 256 (length t.locals) ≡ false = sym (ap (λ (b : Bool). b && nat_le 256 (length t.locals)) new) ∙ f in
+      let low : length t.locals < 256 = leb-false 256 (length t.locals) room in
+      let e : length (t.locals ++ w ∷ []) ≡ length t.locals + 1 = length-append t.locals (w ∷ []) in
+      omega arith
+
+same_value : (k : Kind) → same_kind k kind.Value ≡ true
+same_value kind.Value = refl
+
+-- a state that is declared exists
+declared_fits : (ds : List Decl) (w : Word) → mem w (state_names ds) ≡ true → has_kind (kinds ds) (place_in (state_names ds) w) kind.Value ≡ true
+declared_fits ds w h =
+    let p : place_in (state_names ds) w < 0 + length (state_names ds) = place_below 0 (state_names ds) w h in
+    let a : length (state_names ds) ≡ length ds = length-map ds (λ (d : Decl). d.name) in
+    let b : length (kinds ds) ≡ length ds = length-map ds (λ (d : Decl). d.kind) in
+    and_from (nat_lt (place_in (state_names ds) w) (length (kinds ds))) _ (lt-ltb (place_in (state_names ds) w) (length (kinds ds)) (omega arith)) (same_value _)
+
+row_fits_more : (n m : ℕ) (ks : List Kind) (r : Row) → n ≤ m → row_fits n ks r ≡ true → row_fits m ks r ≡ true
+row_fits_more n m ks (ActRow q) h f = refl
+row_fits_more n m ks (AskRow (text.Get name state e)) h f =
+    let a = and_parts (nat_lt name n) (has_kind ks state kind.Value) f in
+    let low : name < n = ltb-true name n a.0 in
+    and_from (nat_lt name m) (has_kind ks state kind.Value) (lt-ltb name m (omega arith)) a.1
+row_fits_more n m ks (AskRow (text.Put state e)) h f = f
+
+rows_fit_more : (n m : ℕ) (ks : List Kind) (rows : List Row) → n ≤ m → list_all (row_fits n ks) rows ≡ true → list_all (row_fits m ks) rows ≡ true
+rows_fit_more n m ks [] h f = refl
+rows_fit_more n m ks (r ∷ rs) h f =
+    let a = and_parts (row_fits n ks r) (list_all (row_fits n ks) rs) f in
+    and_from (row_fits m ks r) (list_all (row_fits m ks) rs) (row_fits_more n m ks r h a.0) (rows_fit_more n m ks rs h a.1)
+
+all_with : (p : Row → Bool) (rows : List Row) (r : Row) → list_all p rows ≡ true → p r ≡ true → list_all p (rows ++ r ∷ []) ≡ true
+all_with p rows r h g = list_all-append p rows (r ∷ []) ∙ and_from (list_all p rows) (list_all p (r ∷ [])) h (and_from (p r) true g refl)
+
+sound_input : (t : Tables) (rows : List Row) (n : ℕ) → Sound t rows → n ≤ 16 → Sound (after (shape.Input n) t) (rows ++ [])
+unfolding after
+sound_input t rows n h i =
+    let e : rows ++ [] ≡ rows = append-nil rows in
+    record { fields = i; states = h.states; locals = h.locals; inside = h.inside; before = λ q. e ∙ h.before q; fit = ap (list_all (row_fits (length t.locals) (kinds t.states))) e ∙ h.fit }
+
+sound_state : (t : Tables) (rows : List Row) (name : Word) (kind : KindWord) → Sound t rows → NoFault t (shape.State name kind) → Sound (after (shape.State name kind) t) (rows ++ [])
+unfolding after is_too_many may_stand
+sound_state t rows name kind h f =
+    let before : t.row ≡ false = not_true t.row (and_parts (not t.inside && is_some t.fields) (not t.row) f.stands).1 in
+    let e : rows ++ [] ≡ [] = append-nil rows ∙ h.before before in
+    let low : length t.states < 64 = leb-false 64 (length t.states) f.few in
+    let ds = (after (shape.State name kind) t).states in
+    record { fields = h.fields; states = (let n : length ds ≡ length t.states + 1 = length-append t.states _ in omega arith); locals = h.locals; inside = h.inside; before = λ q. e; fit = ap (list_all (row_fits (length t.locals) (kinds ds))) e }
+
+sound_row : (t : Tables) (rows : List Row) → Sound t rows → NoFault t shape.OnRow → Sound (after shape.OnRow t) (rows ++ [])
+unfolding after is_twice
+sound_row t rows h f =
+    let e : rows ++ [] ≡ [] = append-nil rows ∙ h.before f.once in
+    record { fields = h.fields; states = h.states; locals = omega arith; inside = λ q. refl; before = λ q. absurd (true≢false q); fit = ap (list_all (row_fits 0 (kinds t.states))) e }
+
+sound_end : (t : Tables) (rows : List Row) → Sound t rows → Sound (after shape.End t) (rows ++ [])
+unfolding after
+sound_end t rows h =
+    let e : rows ++ [] ≡ rows = append-nil rows in
+    record { fields = h.fields; states = h.states; locals = h.locals; inside = λ q. absurd (false≢true q); before = λ q. e ∙ h.before q; fit = ap (list_all (row_fits (length t.locals) (kinds t.states))) e ∙ h.fit }
+
+sound_get : (t : Tables) (rows : List Row) (name state : Word) (missing : List Word) → Sound t rows → NoFault t (shape.Get name state missing)
+    → Sound (after (shape.Get name state missing) t) (rows ++ row_list (row_of (after (shape.Get name state missing) t) (shape.Get name state missing)))
+unfolding after row_of is_too_many may_stand has_wrong_kind
+sound_get t rows name state missing h f =
+    let row : t.row ≡ true = h.inside f.stands in
+    let kinds_apart = or_false (is_state t name) (not (is_state t state)) (or_false (list_any (is_state t) missing) _ f.kind).1 in
+    let room = (or_false (nat_le 10000 t.statements) _ (or_false _ (has_long_expr (shape.Get name state missing)) f.few).0).1 in
+    let locals = with_word (Some name) t.locals in
+    let here : place_in locals name < 0 + length locals = place_below 0 locals name (with_mem name t.locals) in
+    let there = declared_fits t.states state (not_false (is_state t state) kinds_apart.1) in
+    let p = row_fits (length locals) (kinds t.states) in
+    record {
+      fields = h.fields;
+      states = h.states;
+      locals = with_few t name h.locals room kinds_apart.0;
+      inside = h.inside;
+      before = λ q. absurd (true≢false (sym row ∙ q));
+      fit = all_with p rows _ (rows_fit_more (length t.locals) (length locals) (kinds t.states) rows (with_grows name t.locals) h.fit)
+          (and_from (nat_lt (place_in locals name) (length locals)) _ (lt-ltb (place_in locals name) (length locals) (omega arith)) there);
+    }
+
+sound_put : (t : Tables) (rows : List Row) (state : Word) (values : List Word) → Sound t rows → NoFault t (shape.Put state values)
+    → Sound (after (shape.Put state values) t) (rows ++ row_list (row_of (after (shape.Put state values) t) (shape.Put state values)))
+unfolding after row_of may_stand has_wrong_kind
+sound_put t rows state values h f =
+    let row : t.row ≡ true = h.inside f.stands in
+    let there = declared_fits t.states state (not_false (is_state t state) (or_false (list_any (is_state t) values) (not (is_state t state)) f.kind).1) in
+    record {
+      fields = h.fields;
+      states = h.states;
+      locals = h.locals;
+      inside = h.inside;
+      before = λ q. absurd (true≢false (sym row ∙ q));
+      fit = all_with (row_fits (length t.locals) (kinds t.states)) rows _ h.fit there;
+    }
+
+sound_emit : (t : Tables) (rows : List Row) (values : List Word) → Sound t rows → NoFault t (shape.Emit values)
+    → Sound (after (shape.Emit values) t) (rows ++ row_list (row_of (after (shape.Emit values) t) (shape.Emit values)))
+unfolding after row_of may_stand
+sound_emit t rows values h f =
+    let row : t.row ≡ true = h.inside f.stands in
+    record {
+      fields = h.fields;
+      states = h.states;
+      locals = h.locals;
+      inside = h.inside;
+      before = λ q. absurd (true≢false (sym row ∙ q));
+      fit = all_with (row_fits (length t.locals) (kinds t.states)) rows _ h.fit refl;
+    }
+
+sound_shape : (t : Tables) (rows : List Row) (s : Shape) → Sound t rows → SmallInput (Some s) → NoFault t s → Sound (after s t) (rows ++ row_list (row_of (after s t) s))
+unfolding row_of is_built
+sound_shape t rows (shape.Input a) h i f = sound_input t rows a h i
+sound_shape t rows (shape.State a b) h i f = sound_state t rows a b h f
+sound_shape t rows shape.OnRow h i f = sound_row t rows h f
+sound_shape t rows shape.End h i f = sound_end t rows h
+sound_shape t rows (shape.Get a b c) h i f = sound_get t rows a b c h f
+sound_shape t rows (shape.Put a b) h i f = sound_put t rows a b h f
+sound_shape t rows (shape.Emit a) h i f = sound_emit t rows a h f
+sound_shape t rows shape.OnTimer h i f = absurd (false≢true f.built)
+sound_shape t rows (shape.Let a b) h i f = absurd (false≢true f.built)
+sound_shape t rows (shape.GetAt a b c d) h i f = absurd (false≢true f.built)
+sound_shape t rows (shape.Has a b c) h i f = absurd (false≢true f.built)
+sound_shape t rows (shape.Empty a b) h i f = absurd (false≢true f.built)
+sound_shape t rows (shape.Add a b) h i f = absurd (false≢true f.built)
+sound_shape t rows (shape.Remove a b) h i f = absurd (false≢true f.built)
+sound_shape t rows (shape.Clear a) h i f = absurd (false≢true f.built)
+sound_shape t rows (shape.If a) h i f = absurd (false≢true f.built)
+sound_shape t rows shape.Else h i f = absurd (false≢true f.built)
+sound_shape t rows (shape.Each a b) h i f = absurd (false≢true f.built)
+sound_shape t rows (shape.EachPair a b c) h i f = absurd (false≢true f.built)
+sound_shape t rows shape.Both h i f = absurd (false≢true f.built)
+sound_shape t rows shape.With h i f = absurd (false≢true f.built)
+sound_shape t rows (shape.Timer a) h i f = absurd (false≢true f.built)
+sound_shape t rows (shape.Untimer a) h i f = absurd (false≢true f.built)
+
+-- a line without fault
+sound_after : (t : Tables) (rows : List Row) (s : Shape) → Sound t rows → SmallInput (Some s) → fault_by t s ≡ None → Sound (after s t) (rows ++ row_list (row_of (after s t) s))
+sound_after t rows s h i f = sound_shape t rows s h i (no_fault t s f)
+
+few_in : (t : Tables) (s : Shape) → is_too_many t s ≡ false → is_statement s ≡ true → t.statements < 10000
+unfolding is_too_many
+few_in t (shape.Input a) f h = absurd (false≢true h)
+few_in t (shape.State a b) f h = absurd (false≢true h)
+few_in t shape.OnRow f h = absurd (false≢true h)
+few_in t shape.End f h = absurd (false≢true h)
+few_in t (shape.Get a b c) f h = leb-false 10000 t.statements (or_false (nat_le 10000 t.statements) _ (or_false _ (has_long_expr (shape.Get a b c)) f).0).0
+few_in t (shape.Put a b) f h = leb-false 10000 t.statements (or_false (nat_le 10000 t.statements) _ (or_false _ (has_long_expr (shape.Put a b)) f).0).0
+few_in t (shape.Emit a) f h = leb-false 10000 t.statements (or_false (nat_le 10000 t.statements) _ (or_false _ (has_long_expr (shape.Emit a)) f).0).0
+few_in t shape.OnTimer f h = absurd (false≢true h)
+few_in t (shape.Let a b) f h = absurd (false≢true h)
+few_in t (shape.GetAt a b c d) f h = absurd (false≢true h)
+few_in t (shape.Has a b c) f h = absurd (false≢true h)
+few_in t (shape.Empty a b) f h = absurd (false≢true h)
+few_in t (shape.Add a b) f h = absurd (false≢true h)
+few_in t (shape.Remove a b) f h = absurd (false≢true h)
+few_in t (shape.Clear a) f h = absurd (false≢true h)
+few_in t (shape.If a) f h = absurd (false≢true h)
+few_in t shape.Else f h = absurd (false≢true h)
+few_in t (shape.Each a b) f h = absurd (false≢true h)
+few_in t (shape.EachPair a b c) f h = absurd (false≢true h)
+few_in t shape.Both f h = absurd (false≢true h)
+few_in t shape.With f h = absurd (false≢true h)
+few_in t (shape.Timer a) f h = absurd (false≢true h)
+few_in t (shape.Untimer a) f h = absurd (false≢true h)
+
+pub few_statements : (t : Tables) (s : Shape) → fault_by t s ≡ None → is_statement s ≡ true → t.statements < 10000
+few_statements t s f h = let n = no_fault t s f in few_in t s n.few h
+
+states_in : (t : Tables) (s : Shape) → is_too_many t s ≡ false → length t.states ≤ 64 → length (after s t).states ≤ 64
+unfolding after is_too_many
+states_in t (shape.Input a) f h = h
+states_in t (shape.State a b) f h =
+    let low : length t.states < 64 = leb-false 64 (length t.states) f in
+    let n : length (after (shape.State a b) t).states ≡ length t.states + 1 = length-append t.states _ in
+    omega arith
+states_in t shape.OnRow f h = h
+states_in t shape.End f h = h
+states_in t (shape.Get a b c) f h = h
+states_in t (shape.Put a b) f h = h
+states_in t (shape.Emit a) f h = h
+states_in t shape.OnTimer f h = h
+states_in t (shape.Let a b) f h = h
+states_in t (shape.GetAt a b c d) f h = h
+states_in t (shape.Has a b c) f h = h
+states_in t (shape.Empty a b) f h = h
+states_in t (shape.Add a b) f h = h
+states_in t (shape.Remove a b) f h = h
+states_in t (shape.Clear a) f h = h
+states_in t (shape.If a) f h = h
+states_in t shape.Else f h = h
+states_in t (shape.Each a b) f h = h
+states_in t (shape.EachPair a b c) f h = h
+states_in t shape.Both f h = h
+states_in t shape.With f h = h
+states_in t (shape.Timer a) f h = h
+states_in t (shape.Untimer a) f h = h
+
+pub states_after : (t : Tables) (s : Shape) → fault_by t s ≡ None → length t.states ≤ 64 → length (after s t).states ≤ 64
+states_after t s f h = let n = no_fault t s f in states_in t s n.few h
+
+pub sound_start : Sound start []
+unfolding start
+sound_start = record { fields = tt; states = omega arith; locals = omega arith; inside = λ q. absurd (false≢true q); before = λ q. refl; fit = refl }
+
+row_fits_in : (n : ℕ) (ks : List Kind) (stmt : Stmt) → stmt_fits n ks stmt ≡ row_fits n ks (row_in stmt)
+row_fits_in n ks (code.Get name state missing) = refl
+row_fits_in n ks (code.Put state number) = refl
+row_fits_in n ks (code.Emit values) = refl
+
+-- the statements fit where their rows do
+pub stmts_fit : (n : ℕ) (ks : List Kind) (stmts : List Stmt) → list_all (row_fits n ks) (map row_in stmts) ≡ true → list_all (stmt_fits n ks) stmts ≡ true
+stmts_fit n ks [] h = refl
+stmts_fit n ks (s ∷ ss) h =
+    let a = and_parts (row_fits n ks (row_in s)) (list_all (row_fits n ks) (map row_in ss)) h in
+    and_from (stmt_fits n ks s) (list_all (stmt_fits n ks) ss) (row_fits_in n ks s ∙ a.0) (stmts_fit n ks ss a.1)
+
+-- a line without fault, by its shape where it has one
+pub sound_line : (t : Tables) (rows : List Row) (s : Option Shape) → Sound t rows → SmallInput s → fault_in t s ≡ None → Sound (after_in t s) (rows ++ rows_in t s)
+sound_line t rows None h i f = absurd (none-some 1 (sym f))
+sound_line t rows (Some s) h i f = sound_after t rows s h i f

@@ -1,0 +1,81 @@
+-- What stands at the places of a table of steps.
+use Rattle.std.proofs.Common.{◌≡◌, ◌∙◌, ℕ, zero, suc, ◌+◌, ◌≤◌, ◌<◌, List, [], ◌∷◌, ◌++◌, length, get_or, refl, sym, ap, arith, length-append, true, ◌&&◌, nat_le, max}
+use Rattle.std.proofs.lemmas.Bool.{and_parts, leb-true}
+use Rattle.ax_text.specs.declared.vocabulary.Kind.{Kind}
+use Rattle.ax_text.specs.Texts.{Text, Stop, Act, Ask}
+use Rattle.ax_text.specs.Programs.{width, kinds_of}
+use Rattle.ax_state.specs.declared.decls.Decl.{Decl}
+use Rattle.ax_state.specs.Decls.{kinds, states_of}
+use Rattle.ax_lang.specs.declared.step.Step.{Step}
+use Rattle.ax_lang.specs.Rows.{with_row}
+use Rattle.ax_lang.specs.Steps.{row_in, text_in, texts_from, stmt_fits, steps_fit}
+
+pub kinds_shown : (ds : List Decl) → kinds ds ≡ kinds_of (states_of ds)
+kinds_shown [] = refl
+kinds_shown (d ∷ ds) = ap (λ (ks : List Kind). d.kind ∷ ks) (kinds_shown ds)
+
+-- statements ask one after another
+pub width_small : (t : Text) → max 1 (max (width t) 0) ≡ 1
+width_small Stop = refl
+width_small (Act q t) = width_small t
+width_small (Ask a t) = let h : max 1 (max (width t) 0) ≡ 1 = width_small t in omega arith
+
+text_more : (xs ys : List Text) (p : ℕ) → p ≤ length xs → text_in (xs ++ ys) p ≡ text_in xs p
+text_more xs ys zero h = refl
+text_more [] ys (suc i) h = absurd (omega arith)
+text_more (x ∷ xs) ys (suc zero) h = refl
+text_more (x ∷ xs) ys (suc (suc i)) h = text_more xs ys (suc i) (omega arith)
+
+pub text_last : (xs : List Text) (x : Text) → text_in (xs ++ x ∷ []) (suc (length xs)) ≡ x
+text_last [] x = refl
+text_last (y ∷ xs) x = text_last xs x
+
+-- the texts so far stay
+texts_stay : (ss : List Step) (xs : List Text) (p : ℕ) → p ≤ length xs → text_in (texts_from xs ss) p ≡ text_in xs p
+texts_stay [] xs p h = refl
+texts_stay (s ∷ ss) xs p h =
+    let x = with_row (row_in s.stmt) (text_in xs s.next) in
+    let e : length (xs ++ x ∷ []) ≡ length xs + 1 = length-append xs (x ∷ []) in
+    texts_stay ss (xs ++ x ∷ []) p (omega arith) ∙ text_more xs (x ∷ []) p h
+
+fits_here : (locals n : ℕ) (ks : List Kind) (s : Step) (ss : List Step) → steps_fit locals ks n (s ∷ ss) ≡ true
+    → (s.next ≤ n) × (stmt_fits locals ks s.stmt ≡ true) × (steps_fit locals ks (n + 1) ss ≡ true)
+fits_here locals n ks s ss h =
+    let a = and_parts (nat_le s.next n && stmt_fits locals ks s.stmt) (steps_fit locals ks (n + 1) ss) h in
+    let b = and_parts (nat_le s.next n) (stmt_fits locals ks s.stmt) a.0 in
+    (leb-true s.next n b.0, b.1, a.1)
+
+-- a step's text is its row before the text of the place that it leads to
+pub step_stands : (ss : List Step) (xs : List Text) (locals n : ℕ) (ks : List Kind) (i q : ℕ) (d : Step) → n ≡ length xs → q ≡ n + i → steps_fit locals ks n ss ≡ true → i < length ss
+    → (text_in (texts_from xs ss) (suc q) ≡ with_row (row_in (get_or ss i d).stmt) (text_in (texts_from xs ss) (get_or ss i d).next)) × ((get_or ss i d).next ≤ q) × (stmt_fits locals ks (get_or ss i d).stmt ≡ true)
+step_stands [] xs locals n ks i q d m w f h = absurd (omega arith)
+step_stands (s ∷ ss) xs locals n ks zero q d m w f h =
+    let x : Text = with_row (row_in s.stmt) (text_in xs s.next) in
+    let ys : List Text = xs ++ x ∷ [] in
+    let e : length ys ≡ length xs + 1 = length-append xs (x ∷ []) in
+    let g = fits_here locals n ks s ss f in
+    let low : s.next ≤ n = g.0 in
+    let here : suc q ≡ suc (length xs) = omega arith in (
+      ap (λ (p : ℕ). text_in (texts_from ys ss) p) here ∙ (texts_stay ss ys (suc (length xs)) (omega arith) ∙ (text_last xs x ∙ ap (with_row (row_in s.stmt)) (sym (texts_stay ss ys s.next (omega arith) ∙ text_more xs (x ∷ []) s.next (omega arith))))),
+      omega arith,
+      g.1,
+    )
+step_stands (s ∷ ss) xs locals n ks (suc i) q d m w f h =
+    let x : Text = with_row (row_in s.stmt) (text_in xs s.next) in
+    let ys : List Text = xs ++ x ∷ [] in
+    let e : length ys ≡ length xs + 1 = length-append xs (x ∷ []) in
+    let g = fits_here locals n ks s ss f in
+    step_stands ss ys locals (n + 1) ks i q d (omega arith) (omega arith) g.2 (omega arith)
+
+-- past the last place nothing stands
+pub nothing_past : (ts : List Text) (i : ℕ) → length ts ≤ i → text_in ts (suc i) ≡ Stop
+nothing_past [] i h = refl
+nothing_past (t ∷ ts) zero h = absurd (omega arith)
+nothing_past (t ∷ ts) (suc i) h = nothing_past ts i (omega arith)
+
+pub texts_length : (ss : List Step) (xs : List Text) → length (texts_from xs ss) ≡ length xs + length ss
+texts_length [] xs = omega arith
+texts_length (s ∷ ss) xs =
+    let x : Text = with_row (row_in s.stmt) (text_in xs s.next) in
+    let e : length (xs ++ x ∷ []) ≡ length xs + 1 = length-append xs (x ∷ []) in
+    texts_length ss (xs ++ x ∷ []) ∙ omega arith

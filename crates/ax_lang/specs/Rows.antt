@@ -1,0 +1,87 @@
+-- Lines of a handler whose names are numbers, and the text that they make.
+use Rattle.std.specs.Prelude.{ℕ, ℤ, ◌+◌, ◌-◌, List, [], ◌∷◌, map, Option, Some, None, if◌then◌else◌}
+use lib.Chars.{codes}
+use Rattle.ax_base.specs.Numbers.{number_of}
+use Rattle.ax_text.specs.declared.vocabulary.Op.{Op}
+use Rattle.ax_text.specs.declared.vocabulary.Atom.{Atom}
+use Rattle.ax_text.specs.declared.vocabulary.Atom.TheVariants as atom
+use Rattle.ax_text.specs.Exprs.{Expr, Leaf}
+use Rattle.ax_text.specs.Texts.{Quiet, Asking, Text, Stop, Act, Ask}
+use Rattle.ax_text.specs.Texts as text
+use Rattle.ax_syntax.specs.declared.words.Keyword.{Keyword}
+use Rattle.ax_syntax.specs.declared.words.Keyword.TheVariants as k
+use Rattle.ax_syntax.specs.Words.{Word, same_word, keyword_of, field_number, sign_of}
+use Rattle.ax_syntax.specs.Shapes.{Shape, Get, Put, Emit, parts_of}
+use Rattle.ax_expr.specs.declared.tree.Mark.{Mark}
+use Rattle.ax_expr.specs.declared.tree.Mark.TheVariants as mark
+use Rattle.ax_expr.specs.Reading.{tree_of}
+use Rattle.ax_lang.specs.declared.tables.Tables.{Tables}
+use Rattle.ax_lang.specs.Tables.{state_names}
+
+pub data Row : Type 0 where
+  ActRow : (quiet : Quiet) → Row
+  AskRow : (asking : Asking) → Row
+
+-- the place of a word, where n stand before the list
+abbrev pub index_of : ℕ → List Word → Word → Option ℕ
+index_of n [] w = None
+index_of n (x ∷ xs) w = if same_word x w then Some n else index_of (n + 1) xs w
+
+abbrev pub place_or : Option ℕ → ℕ
+place_or None = 0
+place_or (Some i) = i
+
+abbrev pub place_in : List Word → Word → ℕ
+place_in ws w = place_or (index_of 0 ws w)
+
+abbrev pub number_or : Option ℤ → Atom → Atom
+number_or None a = a
+number_or (Some n) a = atom.Number n
+
+abbrev pub moment_or : Option Keyword → Atom → Atom
+moment_or (Some k.Time) a = atom.Time
+moment_or (Some k.Wm) a = atom.Watermark
+moment_or _ a = a
+
+abbrev pub field_or : Option ℕ → Atom → Atom
+field_or None a = a
+field_or (Some n) a = atom.Field (n - 1)
+
+-- a word that is neither a parenthesis nor a sign
+abbrev pub atom_of : List Word → Word → Atom
+atom_of locals w = number_or (number_of w) (moment_or (keyword_of w) (field_or (field_number w) (atom.Name (place_in locals w))))
+
+abbrev pub sign_or : Option Op → Mark → Mark
+sign_or None m = m
+sign_or (Some o) m = mark.Sign o
+
+-- what a word is in an expression
+unfoldable pub mark_of : List Word → Word → Mark
+mark_of locals w =
+    if same_word w (codes "(") then mark.Open else
+    if same_word w (codes ")") then mark.Close else
+    sign_or (sign_of w) (mark.Operand (atom_of locals w))
+
+abbrev pub tree_or : Option Expr → Expr
+tree_or None = Leaf atom.Time
+tree_or (Some t) = t
+
+-- the expression of these words
+unfoldable pub tree_in : List Word → List Word → Expr
+tree_in locals ws = tree_or (tree_of (map (mark_of locals) ws))
+
+-- the row of a line, where the tables are those behind it
+unfoldable pub row_of : Tables → Shape → Option Row
+row_of t (Get name state missing) = Some (AskRow (text.Get (place_in t.locals name) (place_in (state_names t.states) state) (tree_in t.locals missing)))
+row_of t (Put state values) = Some (AskRow (text.Put (place_in (state_names t.states) state) (tree_in t.locals values)))
+row_of t (Emit values) = Some (ActRow (text.Emit (map (tree_in t.locals) (parts_of values))))
+row_of t _ = None
+
+-- a row stands before a text
+abbrev pub with_row : Row → Text → Text
+with_row (ActRow q) rest = Act q rest
+with_row (AskRow a) rest = Ask a rest
+
+abbrev pub text_of : List Row → Text
+text_of [] = Stop
+text_of (r ∷ rs) = with_row r (text_of rs)

@@ -1,0 +1,31 @@
+-- What a program in the code stands for.
+use Rattle.std.specs.Prelude.{◌≡◌, ℕ, ◌<◌, List, true, Option, Some, None}
+use Rattle.ax_text.specs.declared.vocabulary.Kind.{Kind}
+use Rattle.ax_text.specs.Texts.{Text, Stop}
+use Rattle.ax_text.specs.Programs.{Program, kinds_of}
+use Rattle.ax_state.specs.Decls.{states_of}
+use Rattle.ax_lang.specs.declared.step.Step.{Step}
+use Rattle.ax_lang.specs.declared.program.Program.{Program as CodeProgram}
+use Rattle.ax_lang.specs.Rows.{with_row}
+use Rattle.ax_lang.specs.Steps.{row_in, text_at, stmt_fits}
+
+-- the text from a place of a program on
+unfoldable pub text_from : CodeProgram → ℕ → Text
+text_from p place = text_at p.steps.items place
+
+-- the program that the code holds
+unfoldable pub shown : CodeProgram → Program
+shown p = record { fields = p.fields; states = states_of p.decls; row = text_at p.steps.items p.first; timer = None }
+
+-- the kinds of the declared states
+abbrev pub kinds_in : CodeProgram → List Kind
+kinds_in p = kinds_of (shown p).states
+
+-- how many local names a handler has
+unfoldable pub locals_of : CodeProgram → ℕ
+locals_of p = p.locals
+
+-- what stands at a place: nothing, or a statement that fits and leads to a lower place
+abbrev pub StandsAt : CodeProgram → ℕ → Option Step → Type 0
+StandsAt p place None = text_from p place ≡ Stop
+StandsAt p place (Some s) = (text_from p place ≡ with_row (row_in s.stmt) (text_from p s.next)) × (s.next < place) × (stmt_fits (locals_of p) (kinds_in p) s.stmt ≡ true)

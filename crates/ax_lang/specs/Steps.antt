@@ -1,0 +1,44 @@
+-- What a table of steps stands for. A place counts from 1, and 0 is the end.
+use Rattle.std.specs.Prelude.{ℕ, zero, suc, ◌+◌, List, [], ◌∷◌, ◌++◌, map, Bool, true, ◌&&◌, Option, Some, None, nat_lt, nat_le, slice_index_or}
+use Rattle.ax_text.specs.declared.vocabulary.Kind.{Kind}
+use Rattle.ax_text.specs.declared.vocabulary.Kind.TheVariants as kind
+use Rattle.ax_text.specs.Texts.{Text, Stop}
+use Rattle.ax_text.specs.Texts as text
+use Rattle.ax_state.specs.Fits.{has_kind}
+use Rattle.ax_expr.specs.Seen.{seen}
+use Rattle.ax_lang.specs.declared.step.Stmt.{Stmt}
+use Rattle.ax_lang.specs.declared.step.Stmt.TheVariants as code
+use Rattle.ax_lang.specs.declared.step.Step.{Step}
+use Rattle.ax_lang.specs.Rows.{Row, ActRow, AskRow, with_row}
+
+abbrev pub row_in : Stmt → Row
+row_in (code.Get name state missing) = AskRow (text.Get name state (seen missing))
+row_in (code.Put state number) = AskRow (text.Put state (seen number))
+row_in (code.Emit values) = ActRow (text.Emit (map seen values))
+
+abbrev pub row_some : Option Stmt → Option Row
+row_some None = None
+row_some (Some stmt) = Some (row_in stmt)
+
+abbrev pub text_in : List Text → ℕ → Text
+text_in texts zero = Stop
+text_in texts (suc i) = slice_index_or texts i Stop
+
+-- the texts of all places, from the lowest on; each step leads to a lower place
+abbrev pub texts_from : List Text → List Step → List Text
+texts_from texts [] = texts
+texts_from texts (s ∷ ss) = texts_from (texts ++ with_row (row_in s.stmt) (text_in texts s.next) ∷ []) ss
+
+unfoldable pub text_at : List Step → ℕ → Text
+text_at steps place = text_in (texts_from [] steps) place
+
+-- a statement's local name and state exist, and the state has the statement's kind
+abbrev pub stmt_fits : ℕ → List Kind → Stmt → Bool
+stmt_fits locals kinds (code.Get name state missing) = nat_lt name locals && has_kind kinds state kind.Value
+stmt_fits locals kinds (code.Put state number) = has_kind kinds state kind.Value
+stmt_fits locals kinds (code.Emit values) = true
+
+-- each statement fits, and its step leads to a lower place; n steps stand before
+abbrev pub steps_fit : ℕ → List Kind → ℕ → List Step → Bool
+steps_fit locals kinds n [] = true
+steps_fit locals kinds n (s ∷ ss) = (nat_le s.next n && stmt_fits locals kinds s.stmt) && steps_fit locals kinds (n + 1) ss

@@ -1,0 +1,10 @@
+//! Laws of the language, each the contract of an empty function.
+ghost use Rattle.std.specs.Prelude.{List};
+ghost use Rattle.ax_syntax.specs.Words.{Word};
+ghost use Rattle.ax_lang.specs.Laws.{HasTree};
+
+/// Every expression that a line may have has a tree.
+#[tactic(auto, using(crate::proofs::MarkLemmas::has_tree))]
+pub fn expression_law()
+    ensures { (locals words : List Word) → HasTree locals words }
+{}

@@ -1,0 +1,18 @@
+//! Programs of the operator language: the reader, with the exact first fault, and what it accepts.
+#![tactic(auto)]
+
+pub mod faults;
+pub mod laws;
+pub mod program;
+pub mod reader;
+pub mod rows;
+pub mod step;
+pub mod tables;
+
+pub use laws::expression_law;
+pub use program::Program;
+pub use reader::{ProgFault, SectionEnd, read_program};
+pub use step::{Step, Stmt};
+
+#[cfg(test)]
+mod tests;

@@ -1,0 +1,140 @@
+//! The reader of programs.
+ghost use Rattle.std.specs.Prelude.{◌≡◌, ◌++◌, map, OnOk, None, Some};
+ghost use Rattle.ax_base.specs.Words.{words_of};
+ghost use Rattle.ax_syntax.specs.Shapes.{seen, shape_of};
+ghost use Rattle.ax_lang.specs.Tables.{after, fault_by};
+ghost use Rattle.ax_lang.specs.Rows.{row_of};
+ghost use Rattle.ax_lang.specs.Steps.{row_in, row_some};
+ghost use Rattle.ax_lang.specs.Sound.{Sound};
+ghost use Rattle.ax_lang.specs.Programs.{row_list, ended, program_in, is_whole, program_of, TakesLine, ReadsProgram};
+
+use crate::program::Program;
+use crate::rows::stmt_of;
+use crate::step::Stmt;
+use crate::tables::Tables;
+use ax_base::{Line, NoMemory};
+use ax_syntax::Shape;
+use ax_syntax::shape::shape_of;
+use ax_syntax::words::words;
+use std::alloc::Global;
+use thiserror::Error;
+
+/// Where the program section ended.
+#[derive(Clone, Copy, Debug, PartialEq, Eq)]
+pub struct SectionEnd {
+    /// The line of `%%`, or one past the last line where there is none.
+    pub line: u64,
+    /// Whether there was a line of `%%`.
+    pub found: bool,
+}
+
+/// Why there is no program.
+#[derive(Clone, Copy, Debug, PartialEq, Eq, Error)]
+pub enum ProgFault {
+    /// The first fault: the least line that has one, and its first kind there, by number.
+    #[error("line {line} of the program has a fault of kind {kind}")]
+    At { line: u64, kind: u8 },
+    /// Memory was short.
+    #[error("memory was short")]
+    NoMemory,
+}
+
+// A statement, if there is one, goes last.
+fn push_some(stmts: &mut Vec<Stmt>, stmt: Option<Stmt>) -> Result<(), NoMemory>
+    ensures { OnOk result (map row_in stmts.new.items ≡ map row_in stmts.old.items ++ row_list (row_some stmt)) }
+{
+    let Some(stmt) = stmt else {
+        return Ok(());
+    };
+    match stmts.push(stmt) {
+        Ok(()) => Ok(()),
+        Err(_) => Err(NoMemory),
+    }
+}
+
+// Takes a line of this shape, which has no fault.
+fn take_shape(
+    alloc: Global,
+    tables: &mut Tables,
+    stmts: &mut Vec<Stmt>,
+    shape: &Shape,
+) -> Result<(), NoMemory>
+    requires sound { Sound tables.old (map row_in stmts.old.items) }
+    requires no_fault { fault_by tables.old (seen shape.now) ≡ None }
+    ensures tables { OnOk result (tables.new ≡ after (seen shape.now) tables.old) }
+    ensures rows { OnOk result (map row_in stmts.new.items ≡ map row_in stmts.old.items ++ row_list (row_of (after (seen shape.now) tables.old) (seen shape.now))) }
+{
+    tables.take(alloc, shape)?;
+    let stmt = stmt_of(alloc, tables, shape)?;
+    push_some(stmts, stmt)?;
+    Ok(())
+}
+
+// Takes a line, or tells its fault.
+fn take_line(
+    alloc: Global,
+    tables: &mut Tables,
+    stmts: &mut Vec<Stmt>,
+    line: &Line,
+) -> Result<(), ProgFault>
+    requires { Sound tables.old (map row_in stmts.old.items) }
+    ensures { TakesLine line.now tables.old tables.new (map row_in stmts.old.items) (map row_in stmts.new.items) result }
+{
+    let number = line.number;
+    let Ok(words) = words(alloc, line.text.as_slice()) else {
+        return Err(ProgFault::NoMemory);
+    };
+    let Some(shape) = shape_of(words.as_slice()) else {
+        return Err(ProgFault::At {
+            line: number,
+            kind: 1,
+        });
+    };
+    if let Some(kind) = tables.fault_by(&shape) {
+        return Err(ProgFault::At { line: number, kind });
+    }
+    match take_shape(alloc, tables, stmts, &shape) {
+        Ok(()) => Ok(()),
+        Err(NoMemory) => Err(ProgFault::NoMemory),
+    }
+}
+
+// The end of the section.
+#[tactic(auto, unfolding(crate::specs::Programs::is_whole, crate::specs::Programs::program_in, crate::specs::Programs::ended))]
+fn finish(
+    alloc: Global,
+    tables: Tables,
+    stmts: Vec<Stmt>,
+    end: SectionEnd,
+) -> Result<Program, ProgFault>
+    requires { Sound tables (map row_in stmts.items) }
+    ensures { ReadsProgram (ended tables (map row_in stmts.items) end) result }
+{
+    match tables.fields {
+        Some(fields) if tables.row && !tables.inside && end.found => {
+            let locals = tables.locals.as_slice().len();
+            match Program::new(alloc, fields, tables.states, locals, stmts) {
+                Ok(program) => Ok(program),
+                Err(NoMemory) => Err(ProgFault::NoMemory),
+            }
+        }
+        _ => Err(ProgFault::At {
+            line: end.line,
+            kind: 10,
+        }),
+    }
+}
+
+/// The program of a section's lines, or its first fault.
+pub fn read_program(alloc: Global, lines: &[Line], end: SectionEnd) -> Result<Program, ProgFault>
+    ensures { ReadsProgram (program_of lines.now end) result }
+{
+    let mut tables = Tables::new(alloc);
+    let mut stmts = Vec::new(alloc);
+    for line in lines {
+        if let Err(fault) = take_line(alloc, &mut tables, &mut stmts, line) {
+            return Err(fault);
+        }
+    }
+    finish(alloc, tables, stmts, end)
+}

@@ -1,0 +1,340 @@
+//! Programs and their first faults.
+use crate::program::Program;
+use crate::reader::{ProgFault, SectionEnd, read_program};
+use crate::step::Stmt;
+use ax_base::{Bytes, Line, ListOf, NoMemory};
+use std::alloc::Global;
+
+fn add(lines: &mut Vec<Line>, text: Bytes) -> Result<(), NoMemory> {
+    let before = lines.len() as u64;
+    let number = before.wrapping_add(1);
+    match lines.push(Line { number, text }) {
+        Ok(()) => Ok(()),
+        Err(_) => Err(NoMemory),
+    }
+}
+
+fn add_text(alloc: Global, lines: &mut Vec<Line>, text: &str) -> Result<(), NoMemory> {
+    add(lines, ListOf::from_slice(alloc, text.as_bytes())?)
+}
+
+// A line of a word and a number, as `n7`, between two texts.
+fn add_numbered(
+    alloc: Global,
+    lines: &mut Vec<Line>,
+    front: &str,
+    n: usize,
+    back: &str,
+) -> Result<(), NoMemory> {
+    match format!(in alloc; "{front}{n}{back}") {
+        Ok(text) => add_text(alloc, lines, text.as_str()),
+        Err(_) => Err(NoMemory),
+    }
+}
+
+// The lines of a text in which `;` ends a line.
+fn section(alloc: Global, text: &str) -> Result<Vec<Line>, NoMemory> {
+    let mut lines = Vec::new(alloc);
+    let mut line = ListOf::new(alloc);
+    for b in text.as_bytes() {
+        if *b == b';' {
+            add(&mut lines, line)?;
+            line = ListOf::new(alloc);
+        } else {
+            line.push(*b)?;
+        }
+    }
+    if !line.as_slice().is_empty() {
+        add(&mut lines, line)?;
+    }
+    Ok(lines)
+}
+
+// The line and kind of the first fault; 0 and 0 where there is none.
+fn fault_of(alloc: Global, lines: &[Line], found: bool) -> Result<(u64, u8), NoMemory> {
+    let before = lines.len() as u64;
+    let line = before.wrapping_add(1);
+    match read_program(alloc, lines, SectionEnd { line, found }) {
+        Ok(_) => Ok((0, 0)),
+        Err(ProgFault::At { line, kind }) => Ok((line, kind)),
+        Err(ProgFault::NoMemory) => Err(NoMemory),
+    }
+}
+
+fn fault_in(alloc: Global, text: &str, found: bool) -> Result<(u64, u8), NoMemory> {
+    let lines = section(alloc, text)?;
+    fault_of(alloc, &lines, found)
+}
+
+#[test]
+fn programs_without_fault(rt: HostRuntime) {
+    let alloc = rt.alloc();
+    let cases = [
+        "input 0; on row; end",
+        "input 16; on row; emit v1 , v16; end",
+        "input 2; state s value; on row; n = get s or 0; put s n + v1 - 1; emit n , time , v2; end",
+        "input 1; state s value; on row; x = get s or 1 + v1; x = get s or x; end",
+        "\tinput   1\r; state v value; state v1x value; on row; x = get v1x or 0; put v x; end",
+        "input 0; on row; emit -9223372036854775808 - 007; end",
+        "input 0; on row; emit 1 , 2 , 3 , 4 , 5 , 6 , 7 , 8 , 9 , 10 , 11 , 12 , 13 , 14 , 15 , 16; end",
+        "input 0; state a value; state b value; on row; x = get b or 0; put a x; put b x; emit x; end",
+    ];
+    let mut at: usize = 0;
+    for text in cases.iter() {
+        let fault = fault_in(alloc, *text, true).unwrap_or((99, 99));
+        assert_eq!(rt; fault, (0, 0), "case {at}");
+        at = at.wrapping_add(1);
+    }
+}
+
+// The first case with another fault.
+fn first_wrong(alloc: Global, cases: &[(&str, (u64, u8))]) -> Option<usize> {
+    let mut at: usize = 0;
+    for (text, expected) in cases {
+        if fault_in(alloc, *text, true).unwrap_or((99, 99)) != *expected {
+            return Some(at);
+        }
+        at = at.wrapping_add(1);
+    }
+    None
+}
+
+#[test]
+fn lines_that_may_not_stand(rt: HostRuntime) {
+    let cases = [
+        (";", (1, 1)),
+        ("input", (1, 1)),
+        ("input 17", (1, 1)),
+        ("input -1", (1, 1)),
+        ("input 1; input 17", (2, 1)),
+        ("state s value", (1, 1)),
+        ("on row", (1, 1)),
+        ("on timer", (1, 1)),
+        ("input 1; on timer", (2, 1)),
+        ("input 1; on row; on timer", (3, 1)),
+        ("input 1; on row; on row", (3, 1)),
+        ("input 1; on row; input 1", (3, 1)),
+        ("input 1; on row; end; state s value", (4, 1)),
+        ("input 1; on row; end; end", (4, 1)),
+        ("input 1; on row; end; emit 1", (4, 1)),
+        ("input 1; emit 1", (2, 1)),
+        ("input 1; emit 1 * 2", (2, 1)),
+        ("input 1; on row; else", (3, 1)),
+        ("input 1; on row; with", (3, 1)),
+        ("input 1; on row; emit", (3, 1)),
+        ("input 1; on row; emit 1 *", (3, 1)),
+        ("input 1; on row; emit 1 + X", (3, 1)),
+        ("input 1; on row; emit 9223372036854775808", (3, 1)),
+        (
+            "input 1; on row; emit 1 , 2 , 3 , 4 , 5 , 6 , 7 , 8 , 9 , 10 , 11 , 12 , 13 , 14 , 15 , 16 , 17",
+            (3, 1),
+        ),
+        ("input 1; state input value", (2, 1)),
+        ("input 1; state v1 value", (2, 1)),
+        ("input 1; state s number", (2, 1)),
+    ];
+    assert_eq!(rt; first_wrong(rt.alloc(), &cases), None);
+}
+
+#[test]
+fn lines_not_built_yet(rt: HostRuntime) {
+    let cases = [
+        ("input 1; state s list", (2, 13)),
+        ("input 1; state s map", (2, 13)),
+        ("input 1; state s value; state s list", (3, 13)),
+        ("input 1; on row; end; on timer", (4, 13)),
+        ("input 1; on row; emit 1 * 2", (3, 13)),
+        ("input 1; on row; emit 1 < 2", (3, 13)),
+        ("input 1; on row; emit ( 1 )", (3, 13)),
+        ("input 1; on row; emit wm", (3, 13)),
+        ("input 1; on row; emit x * 2", (3, 13)),
+        ("input 1; state s value; on row; emit s * 2", (4, 13)),
+        ("input 1; on row; let x = 1", (3, 13)),
+        ("input 1; on row; if 1", (3, 13)),
+        ("input 1; on row; both", (3, 13)),
+        ("input 1; on row; timer time", (3, 13)),
+        ("input 1; on row; clear s", (3, 13)),
+        ("input 1; on row; each x in s", (3, 13)),
+        ("input 1; on row; x = has s 1", (3, 13)),
+        ("input 1; on row; x = get s 1 or 2", (3, 13)),
+        ("input 1; state s value; on row; put s 1 , 2", (4, 13)),
+    ];
+    assert_eq!(rt; first_wrong(rt.alloc(), &cases), None);
+}
+
+#[test]
+fn other_faults(rt: HostRuntime) {
+    let cases = [
+        // A second line of its kind.
+        ("input 1; input 1", (2, 3)),
+        ("input 1; state s value; state s value", (3, 3)),
+        ("input 1; on row; end; on row", (4, 3)),
+        ("input 1; on row; end; input 2", (4, 3)),
+        // An unknown name.
+        ("input 1; on row; emit x", (3, 2)),
+        ("input 1; on row; x = get x or 0", (3, 2)),
+        ("input 1; on row; put x 1", (3, 2)),
+        ("input 1; state s value; on row; x = get s or x", (4, 2)),
+        ("input 1; state s value; on row; s = get t or 0", (4, 2)),
+        ("input 1; state s value; on row; emit s + x", (4, 2)),
+        ("input 1; on row; emit v0", (3, 2)),
+        ("input 1; on row; emit v01", (3, 2)),
+        ("input 1; on row; emit 1 , v2", (3, 2)),
+        ("input 16; on row; emit v17", (3, 2)),
+        // A state where a number is wanted, or the other way round.
+        ("input 1; state s value; on row; emit 1 + s", (4, 4)),
+        ("input 1; state s value; on row; s = get s or 0", (4, 4)),
+        (
+            "input 1; state s value; on row; x = get s or 0; put x 1",
+            (5, 4),
+        ),
+        (
+            "input 1; state s value; on row; x = get s or 0; y = get x or 0",
+            (5, 4),
+        ),
+        // Something is still due at the end.
+        ("", (1, 10)),
+        ("input 1", (2, 10)),
+        ("input 1; on row; emit 1", (4, 10)),
+        // The first of several.
+        ("input 1; on row; emit x; emit 1 * 2; on row", (3, 2)),
+    ];
+    assert_eq!(rt; first_wrong(rt.alloc(), &cases), None);
+}
+
+#[test]
+fn end_not_found(rt: HostRuntime) {
+    let alloc = rt.alloc();
+    let whole = fault_in(alloc, "input 0; on row; end", false).unwrap_or((99, 99));
+    assert_eq!(rt; whole, (4, 10));
+    let faulty = fault_in(alloc, "input 0; emit 1", false).unwrap_or((99, 99));
+    assert_eq!(rt; faulty, (2, 1));
+}
+
+// This many states, then this line.
+fn with_states(alloc: Global, count: usize, last: &str) -> Result<(u64, u8), NoMemory> {
+    let mut lines = section(alloc, "input 1")?;
+    for n in 0..count {
+        add_numbered(alloc, &mut lines, "state s", n, " value")?;
+    }
+    add_text(alloc, &mut lines, last)?;
+    add_text(alloc, &mut lines, "end")?;
+    fault_of(alloc, &lines, true)
+}
+
+// This many statements.
+fn with_statements(alloc: Global, count: usize) -> Result<(u64, u8), NoMemory> {
+    let mut lines = section(alloc, "input 1; on row")?;
+    for _n in 0..count {
+        add_text(alloc, &mut lines, "emit v1")?;
+    }
+    add_text(alloc, &mut lines, "end")?;
+    fault_of(alloc, &lines, true)
+}
+
+// This many local names, then this line.
+fn with_locals(alloc: Global, count: usize, last: &str) -> Result<(u64, u8), NoMemory> {
+    let mut lines = section(alloc, "input 1; state s value; on row")?;
+    for n in 0..count {
+        add_numbered(alloc, &mut lines, "n", n, " = get s or 0")?;
+    }
+    add_text(alloc, &mut lines, last)?;
+    add_text(alloc, &mut lines, "end")?;
+    fault_of(alloc, &lines, true)
+}
+
+// An expression of this many numbers, with `+` between them and this word behind.
+fn with_numbers(alloc: Global, count: usize, last: &str) -> Result<(u64, u8), NoMemory> {
+    let mut lines = section(alloc, "input 1; state s value; on row")?;
+    let mut text = String::new(alloc);
+    for word in ["emit 7 , ", last] {
+        if text.push_str(word).is_err() {
+            return Err(NoMemory);
+        }
+    }
+    for _n in 0..count {
+        if text.push_str(" + 1").is_err() {
+            return Err(NoMemory);
+        }
+    }
+    add_text(alloc, &mut lines, text.as_str())?;
+    add_text(alloc, &mut lines, "end")?;
+    fault_of(alloc, &lines, true)
+}
+
+#[test]
+fn limits(rt: HostRuntime) {
+    let alloc = rt.alloc();
+    let cases = [
+        (with_states(alloc, 64, "on row"), (0, 0)),
+        (with_states(alloc, 64, "state t value"), (66, 8)),
+        (with_states(alloc, 64, "state s7 value"), (66, 8)),
+        (with_states(alloc, 64, "state t list"), (66, 13)),
+        (with_states(alloc, 63, "state s7 value"), (65, 3)),
+        (with_locals(alloc, 255, "m = get s or 0"), (0, 0)),
+        (with_locals(alloc, 256, "m = get s or 0"), (260, 8)),
+        (with_locals(alloc, 256, "m = get m or 0"), (260, 8)),
+        (with_locals(alloc, 256, "n7 = get s or n255"), (0, 0)),
+        (with_locals(alloc, 256, "s = get s or 0"), (260, 4)),
+        (with_numbers(alloc, 127, "1"), (0, 0)),
+        (with_numbers(alloc, 128, "1"), (4, 8)),
+        (with_numbers(alloc, 128, "x"), (4, 8)),
+        (with_numbers(alloc, 128, "s"), (4, 8)),
+        (with_numbers(alloc, 127, "x"), (4, 2)),
+        (with_numbers(alloc, 127, "s"), (4, 4)),
+        (with_numbers(alloc, 127, "1 * 1"), (4, 13)),
+        (with_statements(alloc, 10000), (0, 0)),
+        (with_statements(alloc, 10001), (10003, 8)),
+    ];
+    let mut at: usize = 0;
+    for (found, expected) in cases.iter() {
+        let right = match found {
+            Ok(fault) => *fault == *expected,
+            Err(_) => false,
+        };
+        assert!(&rt; right, "case {at}");
+        at = at.wrapping_add(1);
+    }
+}
+
+// What stands at a place, and the place that it leads to.
+fn stands(program: &Program, place: usize) -> (&'static str, usize) {
+    let Some(step) = program.step(place) else {
+        return ("nothing", 0);
+    };
+    match &step.stmt {
+        Stmt::Get { .. } => ("get", step.next),
+        Stmt::Put { .. } => ("put", step.next),
+        Stmt::Emit { .. } => ("emit", step.next),
+    }
+}
+
+#[test]
+fn a_program_as_steps(rt: HostRuntime) {
+    let alloc = rt.alloc();
+    let text =
+        "input 2; state a value; state b value; on row; x = get b or 0; put a x; emit x , 1; end";
+    let Ok(lines) = section(alloc, text) else {
+        assert!(&rt; false);
+        return;
+    };
+    let end = SectionEnd {
+        line: 9,
+        found: true,
+    };
+    let Ok(program) = read_program(alloc, &lines, end) else {
+        assert!(&rt; false);
+        return;
+    };
+    assert_eq!(rt; program.fields(), 2);
+    assert_eq!(rt; program.decls().as_slice().len(), 2);
+    assert_eq!(rt; program.width(), 1);
+    assert!(&rt; !program.has_timer());
+    assert_eq!(rt; program.locals(), 1);
+    assert_eq!(rt; program.first(), 3);
+    assert_eq!(rt; stands(&program, 3), ("get", 2));
+    assert_eq!(rt; stands(&program, 2), ("put", 1));
+    assert_eq!(rt; stands(&program, 1), ("emit", 0));
+    assert_eq!(rt; stands(&program, 0), ("nothing", 0));
+    assert_eq!(rt; stands(&program, 4), ("nothing", 0));
+}

@@ -1,0 +1,11 @@
+//! The words and the shapes of a program's lines: syntax alone, before any look at the lines around them.
+#![tactic(auto)]
+
+pub mod shape;
+pub mod words;
+
+pub use shape::{KindWord, Shape};
+pub use words::Keyword;
+
+#[cfg(test)]
+mod tests;
