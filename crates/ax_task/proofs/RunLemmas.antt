@@ -1,0 +1,96 @@
+-- A handler's run, one statement after another.
+use Rattle.std.proofs.Common.{◌≡◌, ℕ, ℤ, pos, ◌+◌, ◌<◌, ◌≤◌, ◌⊎◌, inl, inr, List, [], ◌∷◌, ◌++◌, Bool, true, false, cond, length, nat_eq, replicate, slice_set, get_or, Option, refl, sym, ap, ap₂, ◌∙◌, subst, arith, append_assoc}
+use Rattle.std.proofs.lemmas.Bool.{eqb-true, eqb-false, cases_lt}
+use Rattle.std.proofs.lemmas.List.{append-nil, get_or-replicate, length-replicate, get_or_past, get_or-set_same, get_or-set_other}
+use Rattle.std.specs.Io.KnownBytes.{Appends}
+use mathlib.Core.Path.{fun_ext}
+use Rattle.ax_base.proofs.OutsideLemmas.{Appends-none, Appends-more}
+use Rattle.ax_text.specs.Functions.{upd}
+use Rattle.ax_text.specs.Exprs.{Facts, Names}
+use Rattle.ax_text.specs.Cells.{Cells}
+use Rattle.ax_text.specs.Texts.{Text, Stop, Emit}
+use Rattle.ax_text.specs.Run.{World, run, begun}
+use Rattle.ax_machine.specs.Entries.{Key, Out, says, text_of, entry_text}
+use Rattle.ax_lang.specs.Rows.{Row, ActRow, AskRow, with_row}
+use Rattle.ax_task.specs.Handler.{names_in, before, does_row}
+
+zero_at : (n i : ℕ) → (i < n) ⊎ (n ≤ i) → get_or (replicate n (pos 0)) i (pos 0) ≡ pos 0
+zero_at n i (inl h) = get_or-replicate n i (pos 0) (pos 0) h
+zero_at n i (inr h) = get_or_past (replicate n (pos 0)) i (pos 0) (omega (arith, length-replicate n (pos 0)))
+
+-- names that are all 0
+pub names_zero : (n : ℕ) → names_in (replicate n (pos 0)) ≡ (λ i. pos 0)
+names_zero n = fun_ext (λ i. zero_at n i (cases_lt i n))
+
+-- another number at one name
+pub names_set : (xs : List ℤ) (i : ℕ) (n : ℤ) → i < length xs → names_in (slice_set xs i n) ≡ upd (names_in xs) i n
+names_set xs i n h = fun_ext (λ j. by_place j (nat_eq i j) refl) where
+  by_place : (j : ℕ) (b : Bool) → nat_eq i j ≡ b → get_or (slice_set xs i n) j (pos 0) ≡ cond b n (get_or xs j (pos 0))
+  by_place j true e = ap (λ k. get_or (slice_set xs i n) k (pos 0)) (sym (eqb-true i j e)) ∙ get_or-set_same xs i n (pos 0) h
+  by_place j false e = get_or-set_other xs i j n (pos 0) (λ f. eqb-false i j e (sym f))
+
+abbrev pub world : Names → List (List ℤ) → Cells → ℕ → World
+world names lines cells served = record { talk = record { names = names; lines = lines }; cells = cells; served = served }
+
+-- `whole` is what the run comes to; `rest` is still to run, and the sink grew by the lines so far
+pub record GoneOn (f : Facts) (key : Key) (whole : World) (h0 h : Option (List ℕ)) (rest : Text) (names : Names) (cells : Cells) : Type 0 where
+  pub lines : List (List ℤ)
+  pub served : ℕ
+  pub grown : Appends h0 h (text_of (says key lines))
+  pub same : run f rest (world names lines cells served) ≡ whole
+
+pub says_both : (key : Key) (xs ys : List (List ℤ)) → text_of (says key (xs ++ ys)) ≡ text_of (says key xs) ++ text_of (says key ys)
+says_both key [] ys = refl
+says_both key (x ∷ xs) ys = ap (λ t. entry_text (Out key x) ++ t) (says_both key xs ys) ∙ sym (append_assoc (entry_text (Out key x)) (text_of (says key xs)) (text_of (says key ys)))
+
+run_row : (f : Facts) (r : Row) (rest : Text) (w : World) → run f (with_row r rest) w ≡ run f rest (does_row f r w)
+run_row f (ActRow q) rest w = refl
+run_row f (AskRow a) rest w = refl
+
+served_after : Row → ℕ → ℕ
+served_after (ActRow q) n = n
+served_after (AskRow a) n = n + 1
+
+-- a statement does the same whatever was written before it
+does_more : (f : Facts) (r : Row) (names : Names) (lines : List (List ℤ)) (cells : Cells) (n : ℕ)
+    → does_row f r (world names lines cells n) ≡ world (does_row f r (before names cells)).talk.names (lines ++ (does_row f r (before names cells)).talk.lines) (does_row f r (before names cells)).cells (served_after r n)
+unfolding served_after
+does_more f (ActRow (Emit values)) names lines cells n = refl
+does_more f (AskRow a) names lines cells n =
+    ap (λ (l : List (List ℤ)). world (does_row f (AskRow a) (before names cells)).talk.names l (does_row f (AskRow a) (before names cells)).cells (n + 1)) (sym (append-nil lines))
+
+pub start_gone_on : (f : Facts) (key : Key) (row rest : Text) (h : Option (List ℕ)) (names : Names) (cells : Cells) → names ≡ (λ i. pos 0) → rest ≡ row → GoneOn f key (run f row (begun cells)) h h rest names cells
+start_gone_on f key row rest h names cells e t = record {
+  lines = [];
+  served = 0;
+  grown = Appends-none h;
+  same = ap₂ (λ (t : Text) (n : Names). run f t (world n [] cells 0)) t e;
+}
+
+pub GoneOn-row : (f : Facts) (key : Key) (whole : World) (h0 h h' : Option (List ℕ)) (r : Row) (text rest : Text) (names names' : Names) (cells cells' : Cells)
+    → GoneOn f key whole h0 h text names cells
+    → text ≡ with_row r rest
+    → names' ≡ (does_row f r (before names cells)).talk.names
+    → cells' ≡ (does_row f r (before names cells)).cells
+    → Appends h h' (text_of (says key (does_row f r (before names cells)).talk.lines))
+    → GoneOn f key whole h0 h' rest names' cells'
+GoneOn-row f key whole h0 h h' r text rest names names' cells cells' g t en ec a =
+    let d : World = does_row f r (before names cells) in
+    record {
+      lines = g.lines ++ d.talk.lines;
+      served = served_after r g.served;
+      grown = Appends-more h0 h h' _ _ _ g.grown a (sym (says_both key g.lines d.talk.lines));
+      same = ap₂ (λ (n : Names) (c : Cells). run f rest (world n (g.lines ++ d.talk.lines) c (served_after r g.served))) en ec
+          ∙ sym (ap (run f rest) (does_more f r names g.lines cells g.served))
+          ∙ sym (run_row f r rest (world names g.lines cells g.served))
+          ∙ sym (ap (λ (t : Text). run f t (world names g.lines cells g.served)) t)
+          ∙ g.same;
+    }
+
+-- nothing is left to run
+pub GoneOn-end : (f : Facts) (key : Key) (whole : World) (h0 h : Option (List ℕ)) (rest : Text) (names : Names) (cells : Cells) → GoneOn f key whole h0 h rest names cells → rest ≡ Stop
+    → (cells ≡ whole.cells) × Appends h0 h (text_of (says key whole.talk.lines))
+GoneOn-end f key whole h0 h rest names cells g e =
+    let all : world names g.lines cells g.served ≡ whole = sym (ap (λ (t : Text). run f t (world names g.lines cells g.served)) e) ∙ g.same in
+    let P : World → Type 0 = λ w. Appends h0 h (text_of (says key w.talk.lines)) in
+    (ap (λ (w : World). w.cells) all, subst P all g.grown)

@@ -1,0 +1,36 @@
+use Rattle.std.proofs.Common.{◌∙◌, ap, arith, pos, length}
+use Rattle.std.proofs.lemmas.List.{length-replicate}
+use Rattle.ax_text.specs.Run.{run, begun}
+use Rattle.ax_state.specs.KeyCells.{cells_of}
+use Rattle.ax_lang.specs.Steps.{row_in}
+use Rattle.ax_lang.specs.Shown.{shown, text_from}
+use Rattle.ax_task.specs.Handler.{facts_in, names_in}
+use Rattle.ax_task.proofs.RunLemmas.{names_zero, start_gone_on, GoneOn-row}
+use Rattle.ax_task.proofs.handler.run_handler.Goals as goal
+
+pub step-init : goal.step-init
+step-init g c = record {
+  gone = start_gone_on (facts_in c.args.row.now) c.args.key.now (shown c.args.program.now).row (text_from c.args.program.now c.first-place.result) (g.K.Sink.holds c.args.out.now) (names_in c.begin.new.self.names.items) (cells_of c.args.cells.now)
+      (ap names_in c.in-Ok.ensures ∙ names_zero c.locals.result) c.first-place.ensures;
+  locals = ap length c.in-Ok.ensures ∙ length-replicate c.locals.result (pos 0) ∙ c.locals.ensures.value;
+  kinds = c.requires;
+  faults = omega arith;
+  short = omega arith;
+}
+
+pub step-preserved : goal.step-preserved
+step-preserved g c =
+    let before = c.step.invariant in
+    let step = c.in-Some.step.now in
+    let ran = c.in_ok-run_stmt.ensures in
+    record {
+      gone = GoneOn-row (facts_in c.args.row.now) c.args.key.now (run (facts_in c.args.row.now) (shown c.args.program.now).row (begun (cells_of c.args.cells.now)))
+          (g.K.Sink.holds c.args.out.now) (g.K.Sink.holds c.step.out) (g.K.Sink.holds c.run_stmt.new.out)
+          (row_in step.stmt) (text_from c.args.program.now c.step.place) (text_from c.args.program.now step.next)
+          (names_in c.step.room.names.items) (names_in c.run_stmt.new.room.names.items) (cells_of c.step.cells) (cells_of c.run_stmt.new.cells)
+          before.gone c.in-Some.ensures.0 ran.names ran.cells ran.lines;
+      locals = ran.locals ∙ before.locals;
+      kinds = ran.kinds ∙ before.kinds;
+      faults = omega (arith, before.faults, ran.faults);
+      short = omega (arith, before.short, ran.short);
+    }

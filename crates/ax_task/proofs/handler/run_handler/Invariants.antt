@@ -1,0 +1,20 @@
+use Rattle.std.proofs.Common.{◌≡◌, ◌≤◌, length}
+use Rattle.ax_text.specs.Run.{run, begun}
+use Rattle.ax_state.specs.KeyCells.{cells_of, kinds_in}
+use Rattle.ax_lang.specs.Shown.{shown, locals_of, text_from}
+use Rattle.ax_lang.specs.Shown as lang
+use Rattle.ax_task.specs.Handler.{facts_in, names_in}
+use Rattle.ax_task.proofs.RunLemmas.{GoneOn}
+use Rattle.ax_task.proofs.handler.run_handler.Given as goal
+
+abbrev pub invariant-step : goal.invariant-step
+invariant-step g l = record {
+  gone : GoneOn (facts_in l.row) l.key (run (facts_in l.row) (shown l.program).row (begun (cells_of l.fn.cells))) (g.K.Sink.holds l.fn.out) (g.K.Sink.holds l.out) (text_from l.program l.place) (names_in l.room.names.items) (cells_of l.cells);
+  locals : length l.room.names.items ≡ locals_of l.program;
+  kinds : kinds_in l.cells ≡ lang.kinds_in l.program;
+  faults : g.K.Sink.faults l.fn.out ≤ g.K.Sink.faults l.out;
+  short : g.K.Sink.short l.fn.out ≤ g.K.Sink.short l.out;
+}
+
+abbrev pub decreases-step : goal.decreases-step
+decreases-step g l = l.place

@@ -1,0 +1,17 @@
+use Rattle.std.proofs.Common.{◌≡◌, ◌+◌, ◌≤◌, false}
+use Rattle.ax_base.specs.Outside.{Told}
+use Rattle.ax_base.specs.Given.{ahead}
+use Rattle.ax_task.specs.Parse.{stream_of}
+use Rattle.ax_task.proofs.stream.next_event.Given as goal
+
+abbrev pub invariant-line : goal.invariant-line
+invariant-line g l = record {
+  same : Told (g.S.Source.left l.fn.input) (g.S.Source.left l.input)
+      (λ a b. stream_of l.fields (l.fn.lines.number + 1) (ahead l.fn.lines a) ≡ stream_of l.fields (l.lines.number + 1) (ahead l.lines b));
+  sound : l.lines.failed ≡ false;
+  less : l.lines.limit ≤ l.fn.lines.limit;
+  faults : g.S.Source.faults l.fn.input ≤ g.S.Source.faults l.input;
+}
+
+abbrev pub decreases-line : goal.decreases-line
+decreases-line g l = l.lines.limit

@@ -1,0 +1,7 @@
+pub mod Sections
+pub mod Parse
+pub mod Clause
+pub mod Reads
+pub mod States
+pub mod Handler
+pub mod Plain

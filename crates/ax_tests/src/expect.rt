@@ -1,0 +1,90 @@
+//! One run over memory, and what it must leave.
+use crate::inputs::with_events;
+use ax_base::{Bytes, NoMemory, SureSink, SureSource};
+use ax_cli::{Status, run_alone};
+use std::alloc::{AllocError, AllocGlobal, Global};
+use std::process::Abort;
+use std::test::Fail;
+
+/// Sums the values of each key. Its events begin at line 9.
+pub const COUNTER: &str =
+    "input 1\nstate c value\non row\nx = get c or 0\nput c x + v1\nemit x + v1\nend\n%%\n";
+
+/// Bytes on both sides of each border: control bytes, spaces, signs, digits, letters, and bytes
+/// that are no ASCII.
+pub const BYTES: [u8; 40] = [
+    0, 1, 8, 9, 10, 11, 12, 13, 14, 31, 32, 33, 34, 35, 36, 37, 43, 44, 45, 46, 47, 48, 57, 58, 95,
+    97, 98, 114, 119, 126, 127, 128, 133, 160, 191, 194, 226, 239, 254, 255,
+];
+
+/// An input fault of this line.
+pub fn input(line: u64, kind: u8) -> Status {
+    Status::Input { line, kind }
+}
+
+/// A program fault of this line.
+pub fn program(line: u64, kind: u8) -> Status {
+    Status::Program { line, kind }
+}
+
+/// These pieces, one after another.
+pub fn joined(alloc: Global, pieces: &[&[u8]]) -> Result<Bytes, NoMemory> {
+    let mut bytes = Bytes::new(alloc);
+    for piece in pieces {
+        bytes.extend_from_slice(piece)?;
+    }
+    Ok(bytes)
+}
+
+/// What the line on `err` must be.
+pub fn line_of(alloc: Global, status: Status) -> Result<String, AllocError> {
+    match status {
+        Status::Ok => format!(in alloc; ""),
+        Status::NoMemory => format!(in alloc; "ax: out of memory\n"),
+        Status::Usage => format!(in alloc; "ax: usage\n"),
+        Status::Program { line, kind } => format!(in alloc;
+            "ax: line {line}: program fault {kind}\n"
+        ),
+        Status::Input { line, kind } => format!(in alloc; "ax: line {line}: input fault {kind}\n"),
+        Status::Read => format!(in alloc; "ax: read fault\n"),
+        Status::Write => format!(in alloc; "ax: write fault\n"),
+    }
+}
+
+// The last bytes of an input, for the message of a failed test.
+fn end_of(alloc: Global, bytes: &[u8]) -> Result<String, AllocError> {
+    let from = bytes.len().saturating_sub(40);
+    bytes[from..].escape_ascii().to_string(alloc)
+}
+
+/// Runs an input of these pieces, and compares all that the run leaves.
+pub fn expect(
+    rt: &(impl Abort + AllocGlobal),
+    pieces: &[&[u8]],
+    out: &str,
+    status: Status,
+) -> Result<(), Fail> {
+    let alloc = rt.alloc();
+    let bytes = joined(alloc, pieces)?;
+    let shown = end_of(alloc, bytes.as_slice())?;
+    let mut source = SureSource::new(bytes);
+    let mut sink = SureSink::new(alloc);
+    let mut err = SureSink::new(alloc);
+    let found = run_alone(alloc, &[], &mut source, &mut sink, &mut err);
+    assert_eq!(rt; found, status, "at .. {shown}");
+    assert_eq!(rt; sink.bytes(), out.as_bytes(), "at .. {shown}");
+    let line = line_of(alloc, status)?;
+    assert_eq!(rt; err.bytes(), line.as_bytes());
+    Ok(())
+}
+
+/// The same for events behind the program that counts.
+pub fn expect_events(
+    rt: &(impl Abort + AllocGlobal),
+    events: &str,
+    out: &str,
+    status: Status,
+) -> Result<(), Fail> {
+    let input = with_events(rt.alloc(), COUNTER.as_bytes(), events.as_bytes())?;
+    expect(rt, &[input.as_slice()], out, status)
+}
