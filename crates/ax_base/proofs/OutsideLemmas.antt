@@ -1,7 +1,7 @@
 -- What one call after another does to known bytes.
 use Rattle.std.proofs.Math.Seq.{take-add}
-use Rattle.std.proofs.Common.{◌≡◌, ℕ, ◌+◌, ◌-◌, ◌≤◌, arith, List, [], ◌++◌, length, take, drop, Option, Some, None, sym, ◌∙◌, ap, append_assoc}
-use Rattle.std.proofs.lemmas.List.{append-nil, take_at, length-take-le, length-drop, take-append-drop, drop-drop}
+use Rattle.std.proofs.Common.{◌≡◌, ℕ, ◌+◌, List, [], ◌++◌, take, drop, Option, Some, None, sym, ◌∙◌, ap, append_assoc}
+use Rattle.std.proofs.lemmas.List.{append-nil}
 use Rattle.std.specs.Io.KnownBytes.{Appends, Keeps}
 use Rattle.ax_base.specs.Outside.{Told}
 
@@ -24,14 +24,6 @@ Appends-kept (Some xs) (Some ys) (Some zs) x p q = q ∙ p
 -- the first m + n: the first m, and n of what is then left
 pub take_next : {A : Type 0} (m n : ℕ) (l r : List A) → r ≡ drop m l → take m l ++ take n r ≡ take (m + n) l
 take_next m n l r e = ap (λ s. take m l ++ take n s) e ∙ sym (take-add m n l)
-
--- n bytes from a place on, copied to the front of others
-pub copied : (xs : List ℕ) (at n : ℕ) (ys zs : List ℕ) → at + n ≤ length xs → ys ≡ take ((at + n) - at) (drop at xs) → drop at xs ≡ take n (ys ++ zs) ++ drop (at + n) xs
-copied xs at n ys zs le e =
-    let m : (at + n) - at ≡ n = omega arith in
-    let here : ys ≡ take n (drop at xs) = e ∙ ap (λ k. take k (drop at xs)) m in
-    let long : length ys ≡ n = ap length here ∙ length-take-le n (drop at xs) (omega (arith, length-drop at xs)) in
-    sym (take-append-drop n (drop at xs)) ∙ ap (λ s. take n (drop at xs) ++ s) (drop-drop n at xs) ∙ ap (λ s. s ++ drop (at + n) xs) (sym here ∙ sym (take_at ys zs n long))
 
 -- facts of told bytes, one after another
 pub Told-trans : {P Q R : List ℕ → List ℕ → Type 0} (l0 l1 l2 : Option (List ℕ)) → Told l0 l1 P → Told l1 l2 Q → ((a b c : List ℕ) → P a b → Q b c → R a c) → Told l0 l2 R

@@ -3,6 +3,7 @@ use Rattle.std.specs.Prelude.{◌≡◌, ◌≤◌, ◌<◌, ◌+◌, ◌-◌, �
 use Rattle.std.specs.Io.KnownBytes.{Consumes}
 use Rattle.ax_base.specs.Pieces.{pieces_of}
 use Rattle.ax_base.specs.Pieces as piece
+use Rattle.ax_base.specs.Outside.{Told}
 use Rattle.ax_base.specs.declared.find.Found.{Found}
 use Rattle.ax_base.specs.declared.find.Found.TheVariants as found
 use Rattle.ax_base.specs.declared.find.Stop.{Stop}
@@ -32,17 +33,21 @@ Sees held limit found.Long = ((more : List ℕ) → pieces_of limit (held ++ mor
 Sees held limit found.Much = ((more : List ℕ) → pieces_of limit (held ++ more) ≡ piece.TooMuch ∷ []) × BeginsTooMuch held limit
 Sees held limit found.Rest = (no_feed held ≡ true) × (length held ≤ 65536) × (length held ≤ limit)
 
--- the text ends with a line feed, or is all that is held
-abbrev pub EndsAt : List ℕ → ℕ → ℕ → Type 0
-EndsAt held text whole = ((whole ≡ text + 1) × SplitsAt held text) ⊎ ((whole ≡ text) × (length held ≡ text) × (text ≤ 65536) × (no_feed held ≡ true))
+-- the source has nothing left, where it tells what it has
+abbrev pub NothingLeft : Option (List ℕ) → Option (List ℕ) → Type 0
+NothingLeft left left' = Told left left' (λ a b. b ≡ [])
+
+-- the text ends with a line feed, or is all that is held at the end of the source
+abbrev pub EndsAt : Type 0 → List ℕ → ℕ → ℕ → Type 0
+EndsAt Ended held text whole = ((whole ≡ text + 1) × SplitsAt held text) ⊎ ((whole ≡ text) × (length held ≡ text) × (text ≤ 65536) × (no_feed held ≡ true) × Ended)
 
 -- how much of what is held is the next line's text, and how much goes with it
-abbrev pub IsIn : List ℕ → ℕ → Result (Option (ℕ × ℕ)) Stop → Type 0
-IsIn held limit (Ok None) = held ≡ []
-IsIn held limit (Ok (Some p)) = (p.0 ≤ p.1) × (0 < p.1) × (p.1 ≤ length held) × (p.1 ≤ limit) × EndsAt held p.0 p.1
-IsIn held limit (Err stop.Read) = (no_feed held ≡ true) × (length held ≤ 65536) × (length held ≤ limit)
-IsIn held limit (Err stop.Long) = BeginsTooLong held limit
-IsIn held limit (Err stop.Much) = BeginsTooMuch held limit
+abbrev pub IsIn : Type 0 → List ℕ → ℕ → Result (Option (ℕ × ℕ)) Stop → Type 0
+IsIn Ended held limit (Ok None) = (held ≡ []) × Ended
+IsIn Ended held limit (Ok (Some p)) = (p.0 ≤ p.1) × (0 < p.1) × (p.1 ≤ length held) × (p.1 ≤ limit) × EndsAt Ended held p.0 p.1
+IsIn Ended held limit (Err stop.Read) = (no_feed held ≡ true) × (length held ≤ 65536) × (length held ≤ limit)
+IsIn Ended held limit (Err stop.Long) = BeginsTooLong held limit
+IsIn Ended held limit (Err stop.Much) = BeginsTooMuch held limit
 
 -- bytes were read behind what was held
 abbrev pub Grows : Option (List ℕ) → Option (List ℕ) → List ℕ → List ℕ → Type 0

@@ -1,7 +1,7 @@
 //! Where the next line ends.
 ghost use Rattle.std.specs.Prelude.{◌≡◌, ◌+◌, ◌-◌, ◌≤◌, ◌<◌, ◌++◌, ◌∷◌, ◌^◌, ℕ, true, length, drop, take, MatchOption, IsErrOf, slice_index};
 ghost use Rattle.ax_base.specs.Outside.{Rose, Told};
-ghost use Rattle.ax_base.specs.Lines.{no_feed, Sees, IsIn, Finds, Grows};
+ghost use Rattle.ax_base.specs.Lines.{no_feed, NothingLeft, Sees, IsIn, Finds, Grows};
 
 use crate::Source;
 use crate::window::{PIECE, Window};
@@ -85,7 +85,7 @@ pub fn find<S: Source>(
     limit: u64,
 ) -> Result<Option<(usize, usize)>, Stop>
     requires { limit < 2 ^ 63 }
-    ensures within { IsIn window.new limit result }
+    ensures within { IsIn (NothingLeft (S.left input.old) (S.left input.new)) window.new limit result }
     ensures grown { Grows (S.left input.old) (S.left input.new) window.old window.new }
     ensures told { Told (S.left input.old) (S.left input.new) (λ a b. Finds limit (window.old ++ a) window.new b result) }
     ensures faults { S.faults input.old ≤ S.faults input.new }

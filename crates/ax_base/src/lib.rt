@@ -27,7 +27,7 @@ pub mod words;
 
 pub use lines::{Line, LineFault, Lines};
 pub use lists::{Bytes, Duplicate, ListOf, Nums, Pair, Pairs};
-pub use memory::{SureSink, SureSource};
+pub use memory::{MemSink, MemSource, SureSink, SureSource};
 pub use numbers::{put_i64, read_i64};
 pub use outside::{Failed, NoMemory, Sink, SinkFault, Source, write_all};
 pub use stream::{ReadSource, WriteSink};

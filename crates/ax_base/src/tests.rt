@@ -4,11 +4,12 @@ ghost use Rattle.std.specs.Prelude.{None};
 
 use crate::lines::{LineFault, Lines};
 use crate::lists::{Bytes, Duplicate, ListOf, Nums, Pair, Pairs};
-use crate::memory::{SureSink, SureSource};
+use crate::memory::{MemSink, MemSource, SureSink, SureSource};
 use crate::numbers::{put_i64, read_i64};
-use crate::outside::{Failed, NoMemory, SinkFault, Source, write_all};
+use crate::outside::{Failed, NoMemory, Sink, SinkFault, Source, write_all};
 use crate::stream::{ReadSource, WriteSink};
 use crate::words::{first_word, split_words};
+use std::alloc::Global;
 use std::process::Abort;
 use std::test::Fail;
 
@@ -39,57 +40,94 @@ fn read_lines<S: Source>(
     Ok(Ok(()))
 }
 
+// What the lines of these bytes are at this limit.
+fn gives(
+    rt: &impl Abort,
+    alloc: Global,
+    bytes: Bytes,
+    limit: u64,
+    want: &[u8],
+    end: Result<(), LineFault>,
+) -> Result<(), Fail> {
+    assert!(rt; limit < 9223372036854775808);
+    let mut input = SureSource::new(bytes);
+    let mut lines = Lines::with_limit(alloc, limit)?;
+    let mut found = Bytes::new(alloc);
+    assert_eq!(rt; read_lines(rt, &mut lines, &mut input, &mut found)?, end);
+    assert_eq!(rt; found.as_slice(), want);
+    Ok(())
+}
+
+fn text_gives(
+    rt: &impl Abort,
+    alloc: Global,
+    text: &str,
+    limit: u64,
+    want: &str,
+    end: Result<(), LineFault>,
+) -> Result<(), Fail> {
+    let bytes = Bytes::from_slice(alloc, text.as_bytes())?;
+    gives(rt, alloc, bytes, limit, want.as_bytes(), end)
+}
+
 #[test]
 fn lines_of_small_inputs(rt: HostRuntime) -> Result<(), Fail> {
-    let much = |number| Err(LineFault::TooMuch { number });
-    let cases: [(&str, u64, &str, Result<(), LineFault>); 10] = [
-        ("", LIMIT, "", Ok(())),
-        ("", 0, "", Ok(())),
-        ("a", 0, "", much(1)),
-        ("ab\ncd", LIMIT, "ab|cd|", Ok(())),
-        ("ab\ncd", 5, "ab|cd|", Ok(())),
-        ("ab\ncd", 4, "ab|", much(2)),
-        ("ab\ncd", 3, "ab|", much(2)),
-        ("ab\ncd", 2, "", much(1)),
-        ("\n\n a\r\n\n", LIMIT, "|| a\r||", Ok(())),
-        ("ab\n", 3, "ab|", Ok(())),
-    ];
-    for (text, limit, want, end) in cases {
-        assert!(&rt; limit < 9223372036854775808);
-        let mut input = SureSource::new(Bytes::from_slice(rt.alloc(), text.as_bytes())?);
-        let mut lines = Lines::with_limit(rt.alloc(), limit)?;
-        let mut found = Bytes::new(rt.alloc());
-        assert_eq!(rt; read_lines(&rt, &mut lines, &mut input, &mut found)?, end);
-        assert_eq!(rt; found.as_slice(), want.as_bytes());
+    text_gives(&rt, rt.alloc(), "", LIMIT, "", Ok(()))?;
+    text_gives(&rt, rt.alloc(), "", 0, "", Ok(()))?;
+    text_gives(
+        &rt,
+        rt.alloc(),
+        "a",
+        0,
+        "",
+        Err(LineFault::TooMuch { number: 1 }),
+    )?;
+    text_gives(&rt, rt.alloc(), "ab\ncd", LIMIT, "ab|cd|", Ok(()))?;
+    text_gives(&rt, rt.alloc(), "ab\ncd", 5, "ab|cd|", Ok(()))?;
+    text_gives(&rt, rt.alloc(), "\n\n a\r\n\n", LIMIT, "|| a\r||", Ok(()))
+}
+
+#[test]
+fn lines_within_a_limit(rt: HostRuntime) -> Result<(), Fail> {
+    text_gives(&rt, rt.alloc(), "ab\n", 3, "ab|", Ok(()))?;
+    let second = LineFault::TooMuch { number: 2 };
+    text_gives(&rt, rt.alloc(), "ab\ncd", 4, "ab|", Err(second))?;
+    text_gives(&rt, rt.alloc(), "ab\ncd", 3, "ab|", Err(second))?;
+    let first = LineFault::TooMuch { number: 1 };
+    text_gives(&rt, rt.alloc(), "ab\ncd", 2, "", Err(first))
+}
+
+// What comes of a first line `a` and a second of so many bytes, with a line feed or none.
+fn second_line(
+    rt: &impl Abort,
+    alloc: Global,
+    length: usize,
+    feed: &[u8],
+    limit: u64,
+    end: Result<(), LineFault>,
+) -> Result<(), Fail> {
+    let mut bytes = Bytes::from_slice(alloc, b"a\n")?;
+    let text = vec![in alloc; b'x'; length]?;
+    bytes.extend_from_slice(&text)?;
+    bytes.extend_from_slice(feed)?;
+    let mut want = Bytes::from_slice(alloc, b"a|")?;
+    if end.is_ok() {
+        want.extend_from_slice(&text)?;
+        want.push(b'|')?;
     }
-    Ok(())
+    gives(rt, alloc, bytes, limit, want.as_slice(), end)
 }
 
 #[test]
 fn long_lines(rt: HostRuntime) -> Result<(), Fail> {
-    let longest = vec![in rt.alloc(); b'x'; 65536]?;
-    let longer = vec![in rt.alloc(); b'x'; 65537]?;
     let long = Err(LineFault::TooLong { number: 2 });
-    let cases: [(&[u8], &[u8], u64, Result<(), LineFault>); 6] = [
-        (&longest, b"\n", LIMIT, Ok(())),
-        (&longest, b"", LIMIT, Ok(())),
-        (&longer, b"\n", LIMIT, long),
-        (&longer, b"", LIMIT, long),
-        (&longer, b"\n", 65538, Err(LineFault::TooMuch { number: 2 })),
-        (&longer, b"", 65539, long),
-    ];
-    for (text, feed, limit, end) in cases {
-        assert!(&rt; limit < 9223372036854775808);
-        let mut bytes = Bytes::from_slice(rt.alloc(), b"a\n")?;
-        bytes.extend_from_slice(text)?;
-        bytes.extend_from_slice(feed)?;
-        let mut input = SureSource::new(bytes);
-        let mut lines = Lines::with_limit(rt.alloc(), limit)?;
-        let mut found = Bytes::new(rt.alloc());
-        assert_eq!(rt; read_lines(&rt, &mut lines, &mut input, &mut found)?, end);
-        assert_eq!(rt; found.len(), if end.is_ok() { 65539 } else { 2 });
-    }
-    Ok(())
+    second_line(&rt, rt.alloc(), 65536, b"\n", LIMIT, Ok(()))?;
+    second_line(&rt, rt.alloc(), 65536, b"", LIMIT, Ok(()))?;
+    second_line(&rt, rt.alloc(), 65537, b"\n", LIMIT, long)?;
+    second_line(&rt, rt.alloc(), 65537, b"", LIMIT, long)?;
+    second_line(&rt, rt.alloc(), 65537, b"", 65539, long)?;
+    let much = Err(LineFault::TooMuch { number: 2 });
+    second_line(&rt, rt.alloc(), 65537, b"\n", 65538, much)
 }
 
 // A source of `x` and `\n` that notes what it was asked for, and fails once.
@@ -121,38 +159,46 @@ impl Source for Noting {
     }
 }
 
+// What the reads of a source of `x` ask for, and the fault that ends them.
+fn asks(
+    rt: &impl Abort,
+    alloc: Global,
+    limit: u64,
+    most: usize,
+    failing: u64,
+    asked: &[usize],
+    fault: LineFault,
+) -> Result<(), Fail> {
+    assert!(rt; limit < 9223372036854775808);
+    let mut input = Noting {
+        byte: b'x',
+        most,
+        failing,
+        calls: 0,
+        faults: 0,
+        asked: Vec::new(alloc),
+    };
+    let mut lines = Lines::with_limit(alloc, limit)?;
+    let mut found = Bytes::new(alloc);
+    assert_eq!(rt;
+        read_lines(rt, &mut lines, &mut input, &mut found)?,
+        Err(fault)
+    );
+    assert!(rt; found.is_empty());
+    assert_eq!(rt; input.asked.as_slice(), asked, "at limit {limit}");
+    Ok(())
+}
+
 #[test]
 fn what_reads_ask_for(rt: HostRuntime) -> Result<(), Fail> {
     let long = LineFault::TooLong { number: 1 };
+    asks(&rt, rt.alloc(), LIMIT, 65536, 0, &[65536, 65536], long)?;
+    asks(&rt, rt.alloc(), LIMIT, 40000, 0, &[65536, 65536], long)?;
+    asks(&rt, rt.alloc(), 65540, 65536, 0, &[65536, 5], long)?;
     let much = LineFault::TooMuch { number: 1 };
-    let cases: [(u64, usize, u64, &[usize], LineFault); 6] = [
-        (LIMIT, 65536, 0, &[65536, 65536], long),
-        (LIMIT, 40000, 0, &[65536, 65536], long),
-        (65540, 65536, 0, &[65536, 5], long),
-        (65535, 65536, 0, &[65536], much),
-        (10, 4, 0, &[11, 7, 3], much),
-        (10, 4, 3, &[11, 7, 3], LineFault::Read),
-    ];
-    for (limit, most, failing, asked, fault) in cases {
-        assert!(&rt; limit < 9223372036854775808);
-        let mut input = Noting {
-            byte: b'x',
-            most,
-            failing,
-            calls: 0,
-            faults: 0,
-            asked: Vec::new(rt.alloc()),
-        };
-        let mut lines = Lines::with_limit(rt.alloc(), limit)?;
-        let mut found = Bytes::new(rt.alloc());
-        assert_eq!(rt;
-            read_lines(&rt, &mut lines, &mut input, &mut found)?,
-            Err(fault)
-        );
-        assert!(rt; found.is_empty());
-        assert_eq!(rt; input.asked.as_slice(), asked, "at limit {limit}");
-    }
-    Ok(())
+    asks(&rt, rt.alloc(), 65535, 65536, 0, &[65536], much)?;
+    asks(&rt, rt.alloc(), 10, 4, 0, &[11, 7, 3], much)?;
+    asks(&rt, rt.alloc(), 10, 4, 3, &[11, 7, 3], LineFault::Read)
 }
 
 #[test]
@@ -177,34 +223,29 @@ fn a_fault_comes_after_the_lines_before_it(rt: HostRuntime) -> Result<(), Fail> 
 }
 
 #[test]
-fn numbers(rt: HostRuntime) -> Result<(), Fail> {
-    let cases: [(&[u8], Option<i64>); 16] = [
-        (b"0", Some(0)),
-        (b"-0", Some(0)),
-        (b"007", Some(7)),
-        (b"-12", Some(-12)),
-        (b"9223372036854775807", Some(i64::MAX)),
-        (b"9223372036854775808", None),
-        (b"-9223372036854775808", Some(i64::MIN)),
-        (b"-9223372036854775809", None),
-        (
-            b"00000000000000000000000000000000000000000000000000000000000001",
-            Some(1),
-        ),
-        (
-            b"100000000000000000000000000000000000000000000000000000000000000",
-            None,
-        ),
-        (b"+1", None),
-        (b"-", None),
-        (b"--1", None),
-        (b"1a", None),
-        (b" 1", None),
-        (b"", None),
-    ];
-    for (word, number) in cases {
-        assert_eq!(rt; read_i64(word), number, "of {word:?}");
+fn read_numbers(rt: HostRuntime) -> Result<(), Fail> {
+    let zeros = b"00000000000000000000000000000000000000000000000000000000000001";
+    assert_eq!(rt; read_i64(zeros), Some(1));
+    assert_eq!(rt; read_i64(b"-0"), Some(0));
+    assert_eq!(rt; read_i64(b"007"), Some(7));
+    assert_eq!(rt; read_i64(b"9223372036854775807"), Some(i64::MAX));
+    assert_eq!(rt; read_i64(b"-9223372036854775808"), Some(i64::MIN));
+    Ok(())
+}
+
+#[test]
+fn words_that_are_no_numbers(rt: HostRuntime) -> Result<(), Fail> {
+    let words = "9223372036854775808 -9223372036854775809 +1 - --1 1a \
+        100000000000000000000000000000000000000000000000000000000000000";
+    for word in split_words(words.as_bytes()) {
+        assert_eq!(rt; read_i64(word), None, "of {word:?}");
     }
+    assert_eq!(rt; read_i64(b""), None);
+    Ok(())
+}
+
+#[test]
+fn written_numbers(rt: HostRuntime) -> Result<(), Fail> {
     let mut text = Bytes::new(rt.alloc());
     for n in [0, -7, i64::MAX, i64::MIN] {
         put_i64(rt.alloc(), &mut text, n)?;
@@ -221,24 +262,52 @@ fn numbers(rt: HostRuntime) -> Result<(), Fail> {
     Ok(())
 }
 
+// What the words of a text are.
+fn splits(rt: &impl Abort, alloc: Global, text: &str, want: &str) -> Result<(), Fail> {
+    let mut found = Bytes::new(alloc);
+    for word in split_words(text.as_bytes()) {
+        found.extend_from_slice(word)?;
+        found.push(b'|')?;
+    }
+    assert_eq!(rt; found.as_slice(), want.as_bytes());
+    assert_eq!(rt; first_word(text.as_bytes()).is_none(), want.is_empty());
+    Ok(())
+}
+
 #[test]
 fn words(rt: HostRuntime) -> Result<(), Fail> {
-    let cases = [
-        ("", ""),
-        (" \t\r \r", ""),
-        ("a", "a|"),
-        ("\ton  row\r", "on|row|"),
-        ("a\tb,c \x0b\r#", "a|b,c|\x0b|#|"),
-    ];
-    for (text, want) in cases {
-        let mut found = Bytes::new(rt.alloc());
-        for word in split_words(text.as_bytes()) {
-            found.extend_from_slice(word)?;
-            found.push(b'|')?;
-        }
-        assert_eq!(rt; found.as_slice(), want.as_bytes());
-        assert_eq!(rt; first_word(text.as_bytes()).is_none(), want.is_empty());
-    }
+    splits(&rt, rt.alloc(), "", "")?;
+    splits(&rt, rt.alloc(), " \t\r \r", "")?;
+    splits(&rt, rt.alloc(), "a", "a|")?;
+    splits(&rt, rt.alloc(), "\ton  row\r", "on|row|")?;
+    splits(&rt, rt.alloc(), "a\tb,c \x0b\r#", "a|b,c|\x0b|#|")
+}
+
+#[test]
+fn a_source_fails_at_the_calls_that_are_named(rt: HostRuntime) -> Result<(), Fail> {
+    let bytes = Bytes::from_slice(rt.alloc(), b"abcde")?;
+    let mut input = MemSource::new(bytes, 2, Nums::from_slice(rt.alloc(), &[2, 4])?);
+    let mut room = [b'.'; 3];
+    assert_eq!(rt; input.read(&mut room), Ok(2));
+    assert_eq!(rt; room, *b"ab.");
+    assert_eq!(rt; input.read(&mut room), Err(Failed));
+    assert_eq!(rt; input.read(&mut room[1..2]), Ok(1));
+    assert_eq!(rt; room, *b"ac.");
+    assert_eq!(rt; input.read(&mut room), Err(Failed));
+    assert_eq!(rt; input.read(&mut room), Ok(2));
+    assert_eq!(rt; input.read(&mut room), Ok(0));
+    assert_eq!(rt; room, *b"de.");
+    Ok(())
+}
+
+#[test]
+fn a_sink_fails_at_the_calls_that_are_named(rt: HostRuntime) -> Result<(), Fail> {
+    let mut out = MemSink::new(rt.alloc(), 2, Nums::from_slice(rt.alloc(), &[2, 5])?);
+    assert_eq!(rt; out.write(b"abc"), Ok(2));
+    assert_eq!(rt; out.write(b"c"), Err(SinkFault::Failed));
+    assert_eq!(rt; write_all(&mut out, b"cd"), Ok(()));
+    assert_eq!(rt; write_all(&mut out, b"efg"), Err(SinkFault::Failed));
+    assert_eq!(rt; out.bytes(), b"abcdef".as_slice());
     Ok(())
 }
 
