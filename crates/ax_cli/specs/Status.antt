@@ -2,7 +2,7 @@
 use Rattle.std.specs.Prelude.{◌≡◌, ℕ, ◌-◌, ◌^◌, ◌<◌, List, Option, Some, None, ◌⊎◌}
 use Rattle.std.specs.Io.KnownBytes.{Keeps}
 use Rattle.ax_task.specs.Parse.{Parsed, BadProgram, Runs, Ending, Clean, Fault}
-use Rattle.ax_task.specs.Clause.{RunEnds, EndCause}
+use Rattle.ax_task.specs.Clause.{RunEnds, Stops, EndCause}
 use Rattle.ax_task.specs.declared.end.End.{End}
 use Rattle.ax_task.specs.declared.end.End.TheVariants as end
 use Rattle.ax_cli.specs.declared.status.Status.{Status}
@@ -38,6 +38,11 @@ ByEnd (Some e) P = P e
 -- what a run leaves, where the bytes of the input say this: `left` is what the source still has
 abbrev pub StatusOf : Parsed → List ℕ → Option (List ℕ) → Option (List ℕ) → Status → Type 0
 StatusOf whole left old new s = ByEnd (end_of s) (RunEnds whole left old new)
+
+-- what a run leaves that stops for a fault of its source or its sink, or for want of memory: `left` is what the source still has of
+-- these bytes
+abbrev pub StatusStops : List ℕ → List ℕ → Option (List ℕ) → Option (List ℕ) → Status → Type 0
+StatusStops bytes left old new s = ByEnd (end_of s) (Stops bytes left old new)
 
 -- a read fault and a write fault have their causes
 abbrev pub StatusCause : ℕ → ℕ → ℕ → ℕ → Status → Type 0

@@ -2,7 +2,7 @@
 ghost use Rattle.std.specs.Prelude.{◌≡◌, ◌<◌, ◌≤◌, ◌↔◌, length};
 ghost use Rattle.ax_base.specs.Outside.{Told};
 ghost use Rattle.ax_task.specs.Parse.{parse};
-ghost use Rattle.ax_cli.specs.Status.{StatusOf, StatusCause, UsageLeaves, NoFault, IsNamed};
+ghost use Rattle.ax_cli.specs.Status.{StatusOf, StatusStops, StatusCause, UsageLeaves, NoFault, IsNamed};
 ghost use Rattle.ax_cli.specs.FaultLine.{WritesLine, line_of};
 
 use crate::fault_line::write_fault_line;
@@ -21,6 +21,8 @@ fn run_words<S: Source, K: Sink>(
     ensures usage { (result ≡ Status.Usage) ↔ (0 < length words.now) }
     ensures told { Told (S.left input.old) (S.left input.new)
         (λ a b. StatusOf (parse a) b (K.holds out.old) (K.holds out.new) result) }
+    ensures stopped { Told (S.left input.old) (S.left input.new)
+        (λ a b. StatusStops a b (K.holds out.old) (K.holds out.new) result) }
     ensures refused { UsageLeaves (S.left input.old) (S.left input.new) (K.holds out.old) (K.holds out.new)
         (S.faults input.old) (S.faults input.new) (K.faults out.old) (K.faults out.new) result }
     ensures faults { S.faults input.old ≤ S.faults input.new }
@@ -42,6 +44,10 @@ fn run_words<S: Source, K: Sink>(
 ///
 /// Want of memory is free. Otherwise the status is the one that the bytes of the input name, but
 /// Read comes where a read fault was counted, and Write where a write fault of `out` was.
+///
+/// At Ok and Input a lawful list of lines was written for all events before the end or the fault; at
+/// Read, for those of the whole lines that were taken. At Write and NoMemory a prefix was written of
+/// a list that is lawful so far for them. Nothing was written where there is no program.
 pub fn run_alone<S: Source, K: Sink, E: Sink>(
     alloc: Global,
     words: &[&str],
@@ -52,6 +58,8 @@ pub fn run_alone<S: Source, K: Sink, E: Sink>(
     ensures usage { (result ≡ Status.Usage) ↔ (0 < length words.now) }
     ensures told { Told (S.left input.old) (S.left input.new)
         (λ a b. StatusOf (parse a) b (K.holds out.old) (K.holds out.new) result) }
+    ensures stopped { Told (S.left input.old) (S.left input.new)
+        (λ a b. StatusStops a b (K.holds out.old) (K.holds out.new) result) }
     ensures refused { UsageLeaves (S.left input.old) (S.left input.new) (K.holds out.old) (K.holds out.new)
         (S.faults input.old) (S.faults input.new) (K.faults out.old) (K.faults out.new) result }
     ensures faults { S.faults input.old ≤ S.faults input.new }

@@ -1,18 +1,18 @@
 -- A handler's run, one statement after another.
-use Rattle.std.proofs.Common.{◌≡◌, ℕ, ℤ, pos, ◌+◌, ◌<◌, ◌≤◌, ◌⊎◌, inl, inr, List, [], ◌∷◌, ◌++◌, Bool, true, false, cond, length, nat_eq, replicate, slice_set, get_or, Option, refl, sym, ap, ap₂, ◌∙◌, subst, arith, append_assoc}
+use Rattle.std.proofs.Common.{◌≡◌, ℕ, ℤ, pos, ◌+◌, ◌<◌, ◌≤◌, ◌⊎◌, inl, inr, List, [], ◌∷◌, ◌++◌, Bool, true, false, cond, length, take, drop, map, nat_eq, replicate, slice_set, get_or, Option, Result, Ok, Err, OnErr, refl, sym, ap, ap₂, ◌∙◌, subst, arith, append_assoc}
 use Rattle.std.proofs.lemmas.Bool.{eqb-true, eqb-false, cases_lt}
-use Rattle.std.proofs.lemmas.List.{append-nil, get_or-replicate, length-replicate, get_or_past, get_or-set_same, get_or-set_other}
+use Rattle.std.proofs.lemmas.List.{append-nil, take-append-drop, take_at, take_all, get_or-replicate, length-replicate, get_or_past, get_or-set_same, get_or-set_other}
 use Rattle.std.specs.Io.KnownBytes.{Appends}
 use mathlib.Core.Path.{fun_ext}
 use Rattle.ax_base.proofs.OutsideLemmas.{Appends-none, Appends-more}
 use Rattle.ax_text.specs.Functions.{upd}
-use Rattle.ax_text.specs.Exprs.{Facts, Names}
+use Rattle.ax_text.specs.Exprs.{Facts, Names, value}
 use Rattle.ax_text.specs.Cells.{Cells}
-use Rattle.ax_text.specs.Texts.{Text, Stop, Emit}
-use Rattle.ax_text.specs.Run.{World, run, begun}
+use Rattle.ax_text.specs.Texts.{Text, Stop, Act, Ask, Emit}
+use Rattle.ax_text.specs.Run.{World, run, begun, act_in, ask_in}
 use Rattle.ax_machine.specs.Entries.{Key, Out, says, text_of, entry_text}
 use Rattle.ax_lang.specs.Rows.{Row, ActRow, AskRow, with_row}
-use Rattle.ax_task.specs.Handler.{names_in, before, does_row}
+use Rattle.ax_task.specs.Handler.{names_in, before, does_row, AppendsSome}
 
 zero_at : (n i : ℕ) → (i < n) ⊎ (n ≤ i) → get_or (replicate n (pos 0)) i (pos 0) ≡ pos 0
 zero_at n i (inl h) = get_or-replicate n i (pos 0) (pos 0) h
@@ -94,3 +94,60 @@ GoneOn-end f key whole h0 h rest names cells g e =
     let all : world names g.lines cells g.served ≡ whole = sym (ap (λ (t : Text). run f t (world names g.lines cells g.served)) e) ∙ g.same in
     let P : World → Type 0 = λ w. Appends h0 h (text_of (says key w.talk.lines)) in
     (ap (λ (w : World). w.cells) all, subst P all g.grown)
+
+pub on_err : {T E P Q : Type 0} (r : Result T E) → OnErr r P → (P → Q) → OnErr r Q
+on_err (Ok x) p f = tt
+on_err (Err e) p f = f p
+
+-- what holds, holds at an error
+pub at_err : {T E P : Type 0} (r : Result T E) → P → OnErr r P
+at_err (Ok x) p = tt
+at_err (Err e) p = p
+
+-- nothing was written
+pub AppendsSome-none : (a : Option (List ℕ)) (x : List ℕ) → AppendsSome a a x
+AppendsSome-none a x = (0, Appends-none a)
+
+-- all was written
+pub AppendsSome-all : (a b : Option (List ℕ)) (x : List ℕ) → Appends a b x → AppendsSome a b x
+AppendsSome-all a b x p = (length x, subst (Appends a b) (sym (take_all (length x) x (omega arith))) p)
+
+-- these bytes, and then some of the next
+pub AppendsSome-behind : (a b c : Option (List ℕ)) (x y z all : List ℕ) → Appends a b x → AppendsSome b c y → x ++ (y ++ z) ≡ all → AppendsSome a c all
+AppendsSome-behind a b c x y z all p q e =
+    let first : List ℕ = x ++ take q.0 y in
+    let behind : List ℕ = drop q.0 y ++ z in
+    let split : first ++ behind ≡ all = append_assoc x (take q.0 y) behind ∙ ap (λ t. x ++ t) (sym (append_assoc (take q.0 y) (drop q.0 y) z) ∙ ap (λ t. t ++ z) (take-append-drop q.0 y)) ∙ e in
+    let same : take (length first) all ≡ first = ap (take (length first)) (sym split) ∙ take_at first behind (length first) refl in
+    (length first, Appends-more a b c x (take q.0 y) (take (length first) all) p q.1 (sym same))
+
+-- a run only adds lines
+pub adds_lines : (f : Facts) (t : Text) (w : World) → (more : List (List ℤ)) × ((run f t w).talk.lines ≡ w.talk.lines ++ more)
+adds_lines f Stop w = ([], sym (append-nil w.talk.lines))
+adds_lines f (Act (Emit values) t) w =
+    let further = adds_lines f t (act_in f (Emit values) w) in
+    let line : List ℤ = map (value f w.talk.names) values in
+    (line ∷ further.0, further.1 ∙ append_assoc w.talk.lines (line ∷ []) further.0)
+adds_lines f (Ask a t) w = let further = adds_lines f t (ask_in f a w) in (further.0, further.1)
+
+-- a statement failed: the sink took a prefix of what the whole run writes
+pub GoneOn-failed : (f : Facts) (key : Key) (whole : World) (h0 h h' : Option (List ℕ)) (r : Row) (text rest : Text) (names : Names) (cells : Cells)
+    → GoneOn f key whole h0 h text names cells
+    → text ≡ with_row r rest
+    → AppendsSome h h' (text_of (says key (does_row f r (before names cells)).talk.lines))
+    → AppendsSome h0 h' (text_of (says key whole.talk.lines))
+GoneOn-failed f key whole h0 h h' r text rest names cells g t a =
+    let d : World = does_row f r (before names cells) in
+    let next : World = world d.talk.names (g.lines ++ d.talk.lines) d.cells (served_after r g.served) in
+    let more = adds_lines f rest next in
+    let all : run f rest next ≡ whole =
+    sym (ap (run f rest) (does_more f r names g.lines cells g.served))
+    ∙ sym (run_row f r rest (world names g.lines cells g.served))
+    ∙ sym (ap (λ (t : Text). run f t (world names g.lines cells g.served)) t)
+    ∙ g.same in
+    let lines : g.lines ++ (d.talk.lines ++ more.0) ≡ whole.talk.lines =
+    sym (append_assoc g.lines d.talk.lines more.0) ∙ sym more.1 ∙ ap (λ (w : World). w.talk.lines) all in
+    AppendsSome-behind h0 h h' (text_of (says key g.lines)) (text_of (says key d.talk.lines)) (text_of (says key more.0)) (text_of (says key whole.talk.lines)) g.grown a
+    (ap (λ t. text_of (says key g.lines) ++ t) (sym (says_both key d.talk.lines more.0))
+    ∙ sym (says_both key g.lines (d.talk.lines ++ more.0))
+    ∙ ap (λ (l : List (List ℤ)). text_of (says key l)) lines)

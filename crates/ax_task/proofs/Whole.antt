@@ -14,12 +14,12 @@ use Rattle.ax_task.specs.Parse.{Parsed, Runs, stream_of, of_reading, of_section,
 use Rattle.ax_task.specs.Clause.{StreamEnds, RunEnds}
 use Rattle.ax_task.specs.declared.end.End.{End}
 
-accepted : (r : Reading) (p : CodeProgram) → IsProgram r p → r ≡ Accepted (shown p)
+pub accepted : (r : Reading) (p : CodeProgram) → IsProgram r p → r ≡ Accepted (shown p)
 accepted (Faulty line kind) p h = absurd h
 accepted (Accepted q) p h = ap Accepted (sym h)
 
 -- the section is gathered, and its program accepted
-parsed : (s : Section) (lines : List Line) (e : SectionEnd) (rest : List Piece) (p : CodeProgram) (n : ℕ)
+pub parsed : (s : Section) (lines : List Line) (e : SectionEnd) (rest : List Piece) (p : CodeProgram) (n : ℕ)
     → s ≡ Gathered lines e.line e.found rest → IsProgram (program_of lines e) p → behind e.line e.found ≡ n
     → of_section s ≡ Runs (shown p) (stream_of (shown p).fields n rest)
 parsed s lines e rest p n is reads follows =

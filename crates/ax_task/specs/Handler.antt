@@ -1,5 +1,6 @@
 -- The run of a row's handler, one statement after another.
-use Rattle.std.specs.Prelude.{ℕ, ℤ, pos, List, [], Result, Ok, Err}
+use Rattle.std.specs.Prelude.{ℕ, ℤ, pos, List, [], take, Option, Result, Ok, Err}
+use Rattle.std.specs.Io.KnownBytes.{Appends}
 use Rattle.ax_base.specs.Outside.{Rose}
 use Rattle.ax_text.specs.Functions.{at}
 use Rattle.ax_text.specs.Exprs.{Facts, Names}
@@ -35,3 +36,7 @@ RunCause faults faults' (Err end.Ok) = ⊥
 RunCause faults faults' (Err (end.Program line kind)) = ⊥
 RunCause faults faults' (Err (end.Input line kind)) = ⊥
 RunCause faults faults' (Err end.Read) = ⊥
+
+-- known bytes grew by a prefix of these
+abbrev pub AppendsSome : Option (List ℕ) → Option (List ℕ) → List ℕ → Type 0
+AppendsSome old new bytes = (n : ℕ) × Appends old new (take n bytes)

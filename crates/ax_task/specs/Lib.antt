@@ -2,6 +2,7 @@ pub mod Sections
 pub mod Parse
 pub mod Clause
 pub mod Reads
+pub mod Passes
 pub mod States
 pub mod Handler
 pub mod Plain

@@ -2,9 +2,7 @@
 use Rattle.std.specs.Prelude.{◌≡◌, ℕ, ◌+◌, ◌≤◌, ◌<◌, List, [], ◌∷◌, ◌++◌, length, Option, Some, None, Result, Ok, Err}
 use Rattle.ax_base.specs.Outside.{Rose}
 use Rattle.ax_base.specs.Pieces.{Piece}
-use Rattle.ax_base.specs.Words.{words_of}
 use Rattle.ax_base.specs.declared.lines.Line.{Line}
-use Rattle.ax_syntax.specs.Words.{Word}
 use Rattle.ax_input.specs.Events.{EventRead, Good, Bad}
 use Rattle.ax_task.specs.Sections.{Section, most_kept}
 use Rattle.ax_task.specs.Sections as section

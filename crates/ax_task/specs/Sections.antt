@@ -1,5 +1,5 @@
 -- The program section: the lines up to `%%`, without blank lines and comments.
-use Rattle.std.specs.Prelude.{ℕ, ◌+◌, List, [], ◌∷◌, length, Bool, true, false, if◌then◌else◌, ◌==◌, nat_lt}
+use Rattle.std.specs.Prelude.{ℕ, ◌+◌, List, [], ◌∷◌, length, Bool, true, false, if◌then◌else◌, nat_lt}
 use lib.Chars.{codes}
 use Rattle.ax_base.specs.Words.{words_of}
 use Rattle.ax_base.specs.Pieces.{Piece, Whole, TooLong, TooMuch}

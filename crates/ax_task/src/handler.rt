@@ -1,5 +1,5 @@
 //! The run of a row's handler on the states of its key: each statement acts at once, and each line is written at once.
-ghost use Rattle.std.specs.Prelude.{◌≡◌, ◌<◌, ◌≤◌, ◌++◌, ◌∷◌, true, ℕ, length, map, pos, replicate, OnOk};
+ghost use Rattle.std.specs.Prelude.{◌≡◌, ◌<◌, ◌≤◌, ◌++◌, ◌∷◌, true, ℕ, length, map, pos, replicate, OnOk, OnErr};
 ghost use Rattle.std.specs.Fmt.{signed_decimal};
 ghost use Rattle.std.specs.Io.KnownBytes.{Appends};
 ghost use Rattle.ax_text.specs.declared.vocabulary.Kind.TheVariants as kind;
@@ -17,7 +17,7 @@ ghost use Rattle.ax_lang.specs.Rows.{ActRow, AskRow};
 ghost use Rattle.ax_lang.specs.Steps.{row_in, stmt_fits};
 ghost use Rattle.ax_lang.specs.Shown.{shown};
 ghost use Rattle.ax_lang.specs.Shown as lang;
-ghost use Rattle.ax_task.specs.Handler.{facts_in, names_in, before, does_row, RunCause};
+ghost use Rattle.ax_task.specs.Handler.{facts_in, names_in, before, does_row, RunCause, AppendsSome};
 
 use crate::end::End;
 use ax_base::{NoMemory, Sink, SinkFault, write_all};
@@ -126,7 +126,7 @@ fn put_line(
     put_bytes(text, b"\n")
 }
 
-// Writes one output line.
+// Writes one output line. After an error the sink took a prefix of it.
 fn run_emit<K: Sink>(
     names: &[i64],
     text: &mut Vec<u8>,
@@ -136,6 +136,7 @@ fn run_emit<K: Sink>(
     out: &mut K,
 ) -> Result<(), End>
     ensures lines { OnOk result (Appends (K.holds out.old) (K.holds out.new) (entry_text (Out key.now (map (value (facts_in row.now) (names_in names.now)) (map seen exprs.now))))) }
+    ensures part { OnErr result (AppendsSome (K.holds out.old) (K.holds out.new) (entry_text (Out key.now (map (value (facts_in row.now) (names_in names.now)) (map seen exprs.now))))) }
     ensures faults { K.faults out.old ≤ K.faults out.new }
     ensures short { K.short out.old ≤ K.short out.new }
     ensures cause { RunCause (K.faults out.old) (K.faults out.new) result }
@@ -197,7 +198,7 @@ fn run_put(
     }
 }
 
-// Runs one statement.
+// Runs one statement. After an error the sink took a prefix of what it writes.
 fn run_stmt<K: Sink>(
     room: &mut Room,
     stmt: &Stmt,
@@ -212,6 +213,7 @@ fn run_stmt<K: Sink>(
     ensures cells { OnOk result (cells_of cells.new ≡ (does_row (facts_in row.now) (row_in stmt.now) (before (names_in room.old.names.items) (cells_of cells.old))).cells) }
     ensures kinds { kinds_in cells.new ≡ kinds_in cells.old }
     ensures lines { OnOk result (Appends (K.holds out.old) (K.holds out.new) (text_of (says key.now (does_row (facts_in row.now) (row_in stmt.now) (before (names_in room.old.names.items) (cells_of cells.old))).talk.lines))) }
+    ensures part { OnErr result (AppendsSome (K.holds out.old) (K.holds out.new) (text_of (says key.now (does_row (facts_in row.now) (row_in stmt.now) (before (names_in room.old.names.items) (cells_of cells.old))).talk.lines))) }
     ensures faults { K.faults out.old ≤ K.faults out.new }
     ensures short { K.short out.old ≤ K.short out.new }
     ensures cause { RunCause (K.faults out.old) (K.faults out.new) result }
@@ -256,7 +258,8 @@ fn run_stmt<K: Sink>(
 /// Runs `on row` on the states of the row's key, and writes each output line at once.
 ///
 /// Condition: the states have the kinds that the program declares. They keep them, also after an error. Errors are
-/// NoMemory, and Write where the sink failed; then some of the statements have run, and the sink may hold a part of a line.
+/// NoMemory, and Write where the sink failed; then some of the statements have run, and the sink took a prefix of the text
+/// of the lines that the whole run writes.
 pub fn run_handler<K: Sink>(
     room: &mut Room,
     program: &Program,
@@ -269,6 +272,7 @@ pub fn run_handler<K: Sink>(
     ensures kinds { kinds_in cells.new ≡ lang.kinds_in program.now }
     ensures cells { OnOk result (cells_of cells.new ≡ (run (facts_in row.now) (shown program.now).row (begun (cells_of cells.old))).cells) }
     ensures lines { OnOk result (Appends (K.holds out.old) (K.holds out.new) (text_of (says key.now (run (facts_in row.now) (shown program.now).row (begun (cells_of cells.old))).talk.lines))) }
+    ensures part { OnErr result (AppendsSome (K.holds out.old) (K.holds out.new) (text_of (says key.now (run (facts_in row.now) (shown program.now).row (begun (cells_of cells.old))).talk.lines))) }
     ensures faults { K.faults out.old ≤ K.faults out.new }
     ensures short { K.short out.old ≤ K.short out.new }
     ensures cause { RunCause (K.faults out.old) (K.faults out.new) result }

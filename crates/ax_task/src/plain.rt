@@ -1,5 +1,5 @@
 //! The plain thread: each row is finished before the next is looked at, on one map of states.
-ghost use Rattle.std.specs.Prelude.{◌≡◌, ◌≤◌, ℕ, List, None, IfOk, OnOk, false};
+ghost use Rattle.std.specs.Prelude.{◌≡◌, ◌≤◌, ℕ, List, None, IfOk, OnOk, OnErr, false};
 ghost use Rattle.std.specs.Io.KnownBytes.{Appends};
 ghost use Rattle.std.specs.BTreeMap.{get_by_text};
 ghost use Rattle.std.specs.Str.{bytes_eq};
@@ -8,7 +8,7 @@ ghost use Rattle.ax_text.specs.Run.{run, begun};
 ghost use Rattle.ax_machine.specs.Entries.{says, text_of};
 ghost use Rattle.ax_machine.specs.Sync.{put_at};
 ghost use Rattle.ax_lang.specs.Shown.{shown, kinds_in};
-ghost use Rattle.ax_task.specs.Handler.{facts_in, RunCause};
+ghost use Rattle.ax_task.specs.Handler.{facts_in, RunCause, AppendsSome};
 ghost use Rattle.ax_task.specs.States.{map_of, AllFit};
 ghost use Rattle.ax_task.specs.Plain.{map_in, ThreadFits};
 
@@ -45,7 +45,8 @@ impl PlainThread {
     ///
     /// Condition: what is held fits the program, as it does behind `new` and stays from row to row of one program, also
     /// after an error. Errors are NoMemory, and Write where the sink failed; then some of the handler's statements may have
-    /// run on the key's states, those of other keys are as before, and the sink may hold a part of a line.
+    /// run on the key's states, those of other keys are as before, and the sink took a prefix of the text of the lines that
+    /// the whole run writes.
     pub fn run_row<K: Sink>(
         &mut self,
         program: &Program,
@@ -59,6 +60,8 @@ impl PlainThread {
         ensures map { OnOk result ((q : List ℕ) → map_in (kinds_in program.now) self.new q
             ≡ put_at (map_in (kinds_in program.now) self.old) key.now (run (facts_in row.now) (shown program.now).row (begun (map_in (kinds_in program.now) self.old key.now))).cells q) }
         ensures lines { OnOk result (Appends (K.holds out.old) (K.holds out.new)
+            (text_of (says key.now (run (facts_in row.now) (shown program.now).row (begun (map_in (kinds_in program.now) self.old key.now))).talk.lines))) }
+        ensures part { OnErr result (AppendsSome (K.holds out.old) (K.holds out.new)
             (text_of (says key.now (run (facts_in row.now) (shown program.now).row (begun (map_in (kinds_in program.now) self.old key.now))).talk.lines))) }
         ensures faults { K.faults out.old ≤ K.faults out.new }
         ensures short { K.short out.old ≤ K.short out.new }
@@ -96,6 +99,8 @@ fn run_untouched<K: Sink>(
     ensures map { OnOk result ((q : List ℕ) → map_of (kinds_in program.now) states.new q
         ≡ put_at (map_of (kinds_in program.now) states.old) key.now (run (facts_in row.now) (shown program.now).row (begun (map_of (kinds_in program.now) states.old key.now))).cells q) }
     ensures lines { OnOk result (Appends (K.holds out.old) (K.holds out.new)
+        (text_of (says key.now (run (facts_in row.now) (shown program.now).row (begun (map_of (kinds_in program.now) states.old key.now))).talk.lines))) }
+    ensures part { OnErr result (AppendsSome (K.holds out.old) (K.holds out.new)
         (text_of (says key.now (run (facts_in row.now) (shown program.now).row (begun (map_of (kinds_in program.now) states.old key.now))).talk.lines))) }
     ensures faults { K.faults out.old ≤ K.faults out.new }
     ensures short { K.short out.old ≤ K.short out.new }

@@ -6,6 +6,7 @@ ghost use Rattle.ax_base.specs.Words.{words_of};
 ghost use Rattle.ax_task.specs.Sections.{is_section_end, section_of, most_kept};
 ghost use Rattle.ax_task.specs.Parse.{behind};
 ghost use Rattle.ax_task.specs.Reads.{SectionOf, Keeps, ReadCause};
+ghost use Rattle.ax_task.specs.Passes.{SectionPasses};
 
 use crate::end::End;
 use ax_base::words::first_word;
@@ -96,6 +97,7 @@ pub fn gather<S: Source>(alloc: Global, lines: &mut Lines, input: &mut S) -> Res
     requires { lines.old.failed ≡ false }
     ensures told { Told (S.left input.old) (S.left input.new)
         (λ a b. SectionOf (section_of (lines.old.number + 1) 0 (ahead lines.old a)) (ahead lines.new b) result) }
+    ensures passes { Told (S.left input.old) (S.left input.new) (λ a b. SectionPasses lines.old lines.new a b result) }
     ensures behind { IfOk result (λ g. behind g.end.line g.end.found ≡ lines.new.number + 1) }
     ensures sound { OnOk result (lines.new.failed ≡ false) }
     ensures faults { S.faults input.old ≤ S.faults input.new }

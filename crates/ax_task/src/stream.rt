@@ -5,6 +5,7 @@ ghost use Rattle.ax_base.specs.Given.{ahead};
 ghost use Rattle.ax_input.specs.Events.{event_of};
 ghost use Rattle.ax_task.specs.Parse.{stream_of};
 ghost use Rattle.ax_task.specs.Reads.{NextOf, ReadCause, kind_number, IsFaultAt, ReadsLine};
+ghost use Rattle.ax_task.specs.Passes.{NextPasses};
 
 use crate::end::End;
 use ax_base::{Line, LineFault, Lines, Source};
@@ -71,6 +72,7 @@ pub fn next_event<S: Source>(
     requires { lines.old.failed ≡ false }
     ensures told { Told (S.left input.old) (S.left input.new)
         (λ a b. NextOf (stream_of fields (lines.old.number + 1) (ahead lines.old a)) (stream_of fields (lines.new.number + 1) (ahead lines.new b)) b result) }
+    ensures passes { Told (S.left input.old) (S.left input.new) (λ a b. NextPasses fields lines.old lines.new a b result) }
     ensures less { IfOk result (λ event. IsSome event → lines.new.limit < lines.old.limit) }
     ensures sound { OnOk result (lines.new.failed ≡ false) }
     ensures faults { S.faults input.old ≤ S.faults input.new }
@@ -81,10 +83,10 @@ pub fn next_event<S: Source>(
             Ok(None) => return Ok(None),
             Ok(Some(line)) => {
                 if !is_skipped(line.text.as_slice()) {
-                    return match event_at(alloc, fields, &line) {
-                        Ok(event) => Ok(Some(event)),
-                        Err(end) => Err(end),
-                    };
+                    match event_at(alloc, fields, &line) {
+                        Ok(event) => return Ok(Some(event)),
+                        Err(end) => return Err(end),
+                    }
                 }
             }
             Err(LineFault::Read) => return Err(End::Read),

@@ -1,14 +1,15 @@
 //! A whole run: the program section, then the events in a plain loop.
-ghost use Rattle.std.specs.Prelude.{◌≡◌, ◌≤◌, ◌+◌, false, List, ℕ, OnOk};
+ghost use Rattle.std.specs.Prelude.{◌≡◌, ◌≤◌, ◌+◌, false, List, ℕ, OnOk, OnErr};
 ghost use Rattle.std.specs.Io.KnownBytes.{Appends};
 ghost use Rattle.ax_base.specs.Outside.{Told};
 ghost use Rattle.ax_base.specs.Given.{ahead};
 ghost use Rattle.ax_machine.specs.Entries.{text_of};
 ghost use Rattle.ax_lang.specs.Shown.{shown, kinds_in};
 ghost use Rattle.ax_task.specs.Parse.{parse, stream_of};
-ghost use Rattle.ax_task.specs.Clause.{StreamEnds, RunEnds, EndCause};
+ghost use Rattle.ax_task.specs.Clause.{StreamEnds, RunEnds, Stops, EndCause};
+ghost use Rattle.ax_task.specs.Passes.{events_at, EventsStop};
 ghost use Rattle.ax_input.specs.Seen.{seen_event};
-ghost use Rattle.ax_task.specs.Handler.{RunCause, facts_in};
+ghost use Rattle.ax_task.specs.Handler.{RunCause, AppendsSome, facts_in};
 ghost use Rattle.ax_task.specs.Plain.{map_in, ThreadFits, facts_of, key_of, stepped};
 
 use crate::end::End;
@@ -55,7 +56,7 @@ fn row_key(event: &Event) -> &str
     }
 }
 
-// One event of the plain thread.
+// One event of the plain thread. After an error the sink took a prefix of what the event writes.
 fn take_event<K: Sink>(
     thread: &mut PlainThread,
     program: &Program,
@@ -67,6 +68,8 @@ fn take_event<K: Sink>(
     ensures map { OnOk result ((q : List ℕ) → map_in (kinds_in program.now) thread.new q
         ≡ (stepped (shown program.now) (map_in (kinds_in program.now) thread.old) (seen_event event.now)).map q) }
     ensures lines { OnOk result (Appends (K.holds out.old) (K.holds out.new)
+        (text_of (stepped (shown program.now) (map_in (kinds_in program.now) thread.old) (seen_event event.now)).entries)) }
+    ensures part { OnErr result (AppendsSome (K.holds out.old) (K.holds out.new)
         (text_of (stepped (shown program.now) (map_in (kinds_in program.now) thread.old) (seen_event event.now)).entries)) }
     ensures faults { K.faults out.old ≤ K.faults out.new }
     ensures cause { RunCause (K.faults out.old) (K.faults out.new) result }
@@ -85,6 +88,8 @@ fn run_events<S: Source, K: Sink>(
     requires { lines.old.failed ≡ false }
     ensures told { Told (S.left input.old) (S.left input.new)
         (λ a b. StreamEnds (shown program.now) (stream_of (shown program.now).fields (lines.old.number + 1) (ahead lines.old a)) b (K.holds out.old) (K.holds out.new) result) }
+    ensures stopped { Told (S.left input.old) (S.left input.new)
+        (λ a b. EventsStop (shown program.now) (events_at (shown program.now).fields lines.old) lines.old.held a b (K.holds out.old) (K.holds out.new) result) }
     ensures faults { S.faults input.old ≤ S.faults input.new }
     ensures out_faults { K.faults out.old ≤ K.faults out.new }
     ensures cause { EndCause (S.faults input.old) (S.faults input.new) (K.faults out.old) (K.faults out.new) result }
@@ -111,10 +116,13 @@ fn run_events<S: Source, K: Sink>(
 /// Everything that is read comes from `input`, and everything that is written goes to `out`.
 /// `End::Program` names the first fault of the section, and then nothing was written.
 /// `End::Input` names the first line of the events with a fault and its first kind; the lines of all rows before it were written.
-/// `End::Read` and `End::Write` come only where the fault count of `input` or `out` rose in this call.
+/// `End::Read` and `End::Write` come only where the fault count of `input` or `out` rose in this call. At Read the lines of all events
+/// were written that the whole lines taken have; at Write and NoMemory some first bytes of them.
 pub fn run_task_alone<S: Source, K: Sink>(alloc: Global, input: &mut S, out: &mut K) -> End
     ensures told { Told (S.left input.old) (S.left input.new)
         (λ a b. RunEnds (parse a) b (K.holds out.old) (K.holds out.new) result) }
+    ensures stopped { Told (S.left input.old) (S.left input.new)
+        (λ a b. Stops a b (K.holds out.old) (K.holds out.new) result) }
     ensures faults { S.faults input.old ≤ S.faults input.new }
     ensures out_faults { K.faults out.old ≤ K.faults out.new }
     ensures cause { EndCause (S.faults input.old) (S.faults input.new) (K.faults out.old) (K.faults out.new) result }

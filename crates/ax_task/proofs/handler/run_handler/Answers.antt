@@ -5,7 +5,7 @@ use Rattle.ax_state.specs.KeyCells.{cells_of}
 use Rattle.ax_lang.specs.Steps.{row_in}
 use Rattle.ax_lang.specs.Shown.{shown, text_from}
 use Rattle.ax_task.specs.Handler.{facts_in, names_in}
-use Rattle.ax_task.proofs.RunLemmas.{names_zero, start_gone_on, GoneOn-row}
+use Rattle.ax_task.proofs.RunLemmas.{names_zero, start_gone_on, GoneOn-row, GoneOn-failed, at_err}
 use Rattle.ax_task.proofs.handler.run_handler.Goals as goal
 
 pub step-init : goal.step-init
@@ -34,3 +34,12 @@ step-preserved g c =
       faults = omega (arith, before.faults, ran.faults);
       short = omega (arith, before.short, ran.short);
     }
+
+pub returns-in_err-run_stmt-clause-part : goal.returns-in_err-run_stmt-clause-part
+returns-in_err-run_stmt-clause-part g c =
+    let step = c.in-Some.step.now in
+    at_err c.from_residual.result (GoneOn-failed (facts_in c.args.row.now) c.args.key.now (run (facts_in c.args.row.now) (shown c.args.program.now).row (begun (cells_of c.args.cells.now)))
+    (g.K.Sink.holds c.args.out.now) (g.K.Sink.holds c.step.out) (g.K.Sink.holds c.run_stmt.new.out)
+    (row_in step.stmt) (text_from c.args.program.now c.step.place) (text_from c.args.program.now step.next)
+    (names_in c.step.room.names.items) (cells_of c.step.cells)
+    c.step.invariant.gone c.in-Some.ensures.0 c.in_err-run_stmt.ensures.part)

@@ -1,8 +1,7 @@
-use Rattle.std.proofs.Common.{◌≡◌, ◌+◌, ◌≤◌, false}
+use Rattle.std.proofs.Common.{◌≡◌, ◌≤◌, false}
 use Rattle.ax_base.specs.Outside.{Told}
-use Rattle.ax_base.specs.Given.{ahead}
 use Rattle.ax_lang.specs.Shown.{shown, kinds_in}
-use Rattle.ax_task.specs.Parse.{stream_of}
+use Rattle.ax_task.specs.Passes.{events_at}
 use Rattle.ax_task.specs.Plain.{map_in, ThreadFits}
 use Rattle.ax_task.proofs.Progress.{GoneOn}
 use Rattle.ax_task.proofs.task.run_events.Given as goal
@@ -10,7 +9,7 @@ use Rattle.ax_task.proofs.task.run_events.Given as goal
 abbrev pub invariant-event : goal.invariant-event
 invariant-event g l = record {
   same : Told (g.S.Source.left l.fn.input) (g.S.Source.left l.input)
-      (λ a b. GoneOn (shown l.program) (stream_of (shown l.program).fields (l.fn.lines.number + 1) (ahead l.fn.lines a)) (stream_of (shown l.program).fields (l.lines.number + 1) (ahead l.lines b))
+      (λ a b. GoneOn (shown l.program) (events_at (shown l.program).fields l.fn.lines) (events_at (shown l.program).fields l.lines) l.fn.lines.held a l.lines.held b
       (map_in (kinds_in l.program) l.thread) (g.K.Sink.holds l.fn.out) (g.K.Sink.holds l.out));
   fits : ThreadFits (kinds_in l.program) l.thread;
   sound : l.lines.failed ≡ false;

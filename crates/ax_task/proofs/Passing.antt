@@ -1,0 +1,235 @@
+-- What the readers of the section and of the events pass, line by line, where the source tells its bytes.
+use Rattle.std.proofs.Common.{◌≡◌, ℕ, ◌+◌, ◌≤◌, List, [], ◌∷◌, ◌++◌, length, true, false, cond, Option, Some, None, Ok, Err, refl, sym, ap, ◌∙◌, append_assoc, arith, subst}
+use Rattle.std.proofs.lemmas.Bool.{false≢true}
+use Rattle.std.specs.Io.KnownBytes.{Consumes}
+use Rattle.ax_base.specs.Outside.{Told}
+use Rattle.ax_base.specs.Lines.{no_feed}
+use Rattle.ax_base.specs.Pieces.{Piece, Whole, pieces_of}
+use Rattle.ax_base.specs.Reader.{Reader}
+use Rattle.ax_base.specs.Given.{ahead, Gives, ReadsMore}
+use Rattle.ax_base.specs.declared.lines.Line.{Line}
+use Rattle.ax_base.specs.declared.lines.LineFault.TheVariants as fault
+use Rattle.ax_base.proofs.OutsideLemmas.{Told-trans, Told-map}
+use Rattle.ax_input.specs.Events.{EventRead, Good, event_of, is_skipped}
+use Rattle.ax_input.specs.Seen.{seen_event}
+use Rattle.ax_input.specs.declared.event.Event.{Event as CodeEvent}
+use Rattle.ax_task.specs.Parse.{with_event, event_or_fault, stream_of}
+use Rattle.ax_task.specs.Sections.{Section, Gathered, section_of, is_section_end, most_kept}
+use Rattle.ax_task.specs.Reads.{ReadsLine, Keeps}
+use Rattle.ax_task.specs.declared.section.Kept.{Kept}
+use Rattle.ax_task.specs.Passes.{Passed, events_at, section_at, NextPasses, SectionPasses}
+use Rattle.ax_task.specs.declared.section.Gathered.{Gathered as CodeGathered}
+use Rattle.ax_task.specs.declared.end.End.{End}
+use Rattle.ax_task.specs.declared.end.End.TheVariants as end
+use Rattle.ax_task.proofs.Feeds.{Passed-none, Passed-trans, Passed-as, Passed-map, told_line, told_read, told_some}
+use Rattle.ax_task.proofs.Sections.{with_front, with_front-nil, section_end, section_skip, section_keep}
+
+-- a stretch was passed
+abbrev pub Goes : {A : Type 0} → (F G : List ℕ → A) → List ℕ → List ℕ → List ℕ → List ℕ → Type 0
+Goes F G held a held' b = (w : List ℕ) × Passed F G held a w held' b
+
+-- at first nothing was passed
+pub goes_none : {A : Type 0} (F : List ℕ → A) (l : Option (List ℕ)) (held : List ℕ) → Told l l (λ a b. Goes F F held a held b)
+goes_none F None held = tt
+goes_none F (Some a) held = ([], Passed-none F held a held a refl)
+
+-- one stretch behind another
+pub goes_on : {A : Type 0} (F G H : List ℕ → A) (l0 l1 l2 : Option (List ℕ)) (h0 h1 h2 : List ℕ)
+    → Told l0 l1 (λ a b. Goes F G h0 a h1 b) → Told l1 l2 (λ a b. Goes G H h1 a h2 b) → Told l0 l2 (λ a b. Goes F H h0 a h2 b)
+goes_on F G H l0 l1 l2 h0 h1 h2 x y =
+    Told-trans l0 l1 l2 x y (λ a b c p q. (p.0 ++ q.0, Passed-trans F G H h0 a p.0 h1 b q.0 h2 c p.1 q.1))
+
+-- a line was passed, by what the lines mean
+pub line_goes : {A : Type 0} (f : List Piece → A) (H : List ℕ → A) (l l' : Option (List ℕ)) (old new : Reader) (line : Line)
+    → ReadsMore l l' old new (Ok (Some line)) → ((x : List ℕ) → f (Whole line.text ∷ pieces_of new.limit x) ≡ H x)
+    → Told l l' (λ a b. Goes (λ x. f (pieces_of old.limit x)) H old.held a new.held b)
+line_goes f H l l' old new line r h =
+    Told-map l l' (told_line l l' old new line r) (λ a b p. (
+      p.0,
+      Passed-as (λ x. f (pieces_of old.limit x)) (λ x. f (Whole line.text ∷ pieces_of new.limit x)) H old.held a p.0 new.held b
+          (Passed-map f (pieces_of old.limit) (λ x. Whole line.text ∷ pieces_of new.limit x) old.held a p.0 new.held b p.1) h,
+    ))
+
+-- what the reader of events makes of a line
+skipped : (fields n : ℕ) (text : List ℕ) (rest : List Piece) → is_skipped text ≡ true → stream_of fields n (Whole text ∷ rest) ≡ stream_of fields (n + 1) rest
+skipped fields n text rest e = ap (λ t. cond t (stream_of fields (n + 1) rest) (event_or_fault n (event_of fields text) (stream_of fields (n + 1) rest))) e
+
+taken : (fields n : ℕ) (text : List ℕ) (rest : List Piece) → is_skipped text ≡ false → stream_of fields n (Whole text ∷ rest) ≡ event_or_fault n (event_of fields text) (stream_of fields (n + 1) rest)
+taken fields n text rest e = ap (λ t. cond t (stream_of fields (n + 1) rest) (event_or_fault n (event_of fields text) (stream_of fields (n + 1) rest))) e
+
+-- a skipped line
+pub next_skips : (fields : ℕ) (l l' : Option (List ℕ)) (old new : Reader) (line : Line) → ReadsMore l l' old new (Ok (Some line)) → is_skipped line.text ≡ true → new.number ≡ old.number + 1
+    → Told l l' (λ a b. Goes (events_at fields old) (events_at fields new) old.held a new.held b)
+next_skips fields l l' old new line r e n =
+    line_goes (stream_of fields (old.number + 1)) (events_at fields new) l l' old new line r
+    (λ x. skipped fields (old.number + 1) line.text (pieces_of new.limit x) e ∙ ap (λ k. stream_of fields (k + 1) (pieces_of new.limit x)) (sym n))
+
+-- a line with an event
+next_takes : (fields : ℕ) (l l' : Option (List ℕ)) (old new : Reader) (line : Line) (e : CodeEvent) → ReadsMore l l' old new (Ok (Some line)) → is_skipped line.text ≡ false
+    → new.number ≡ old.number + 1 → event_of fields line.text ≡ Good (seen_event e)
+    → Told l l' (λ a b. Goes (events_at fields old) (λ x. with_event (seen_event e) (events_at fields new x)) old.held a new.held b)
+next_takes fields l l' old new line e r s n good =
+    line_goes (stream_of fields (old.number + 1)) (λ x. with_event (seen_event e) (events_at fields new x)) l l' old new line r
+    (λ x. taken fields (old.number + 1) line.text (pieces_of new.limit x) s
+    ∙ ap (λ g. event_or_fault (old.number + 1) g (stream_of fields (old.number + 1 + 1) (pieces_of new.limit x))) good
+    ∙ ap (λ k. with_event (seen_event e) (stream_of fields (k + 1) (pieces_of new.limit x))) (sym n))
+
+-- the next event was read
+pub next_event_passes : (fields : ℕ) (l0 l l' : Option (List ℕ)) (first old new : Reader) (line : Line) (e : CodeEvent)
+    → Told l0 l (λ a b. Goes (events_at fields first) (events_at fields old) first.held a old.held b)
+    → ReadsMore l l' old new (Ok (Some line)) → is_skipped line.text ≡ false → new.number ≡ old.number + 1 → event_of fields line.text ≡ Good (seen_event e)
+    → Told l0 l' (λ a b. NextPasses fields first new a b (Ok (Some e)))
+next_event_passes fields l0 l l' first old new line e x r s n good =
+    goes_on (events_at fields first) (events_at fields old) (λ y. with_event (seen_event e) (events_at fields new y)) l0 l l' first.held old.held new.held x
+    (next_takes fields l l' old new line e r s n good)
+
+-- bytes came of which nothing was passed
+some_passes : (fields : ℕ) (l0 l l' : Option (List ℕ)) (first old new : Reader) (more : List ℕ)
+    → Told l0 l (λ a b. Goes (events_at fields first) (events_at fields old) first.held a old.held b)
+    → Consumes l l' more
+    → Told l0 l' (λ a b. NextPasses fields first new a b (Err end.NoMemory))
+some_passes fields l0 l l' first old new more x came =
+    Told-trans l0 l l' x (told_some (events_at fields old) l l' old.held more came) (λ a b c p q.
+    (events_at fields old, p.0 ++ [], q.0, Passed-trans (events_at fields first) (events_at fields old) (events_at fields old) first.held a p.0 old.held b [] q.0 c p.1 q.1))
+
+-- memory was short while a line was read
+pub next_lacks : (fields : ℕ) (l0 l l' : Option (List ℕ)) (first old new : Reader)
+    → Told l0 l (λ a b. Goes (events_at fields first) (events_at fields old) first.held a old.held b)
+    → ReadsMore l l' old new (Err fault.NoMemory)
+    → Told l0 l' (λ a b. NextPasses fields first new a b (Err end.NoMemory))
+next_lacks fields l0 l l' first old new x r = some_passes fields l0 l l' first old new r.0 x r.1
+
+-- a line is no event, or memory was short for it
+pub next_err_passes : (fields : ℕ) (l0 l l' : Option (List ℕ)) (first old new : Reader) (line : Line) (e : End) (read : EventRead) (number : ℕ)
+    → Told l0 l (λ a b. Goes (events_at fields first) (events_at fields old) first.held a old.held b)
+    → ReadsMore l l' old new (Ok (Some line)) → ReadsLine read number (Err e)
+    → Told l0 l' (λ a b. NextPasses fields first new a b (Err e))
+next_err_passes fields l0 l l' first old new line (end.Input n kind) read number x r h = Told-trans l0 l l' x (told_some (events_at fields old) l l' old.held r.0 r.1) (λ a b c p q. tt)
+next_err_passes fields l0 l l' first old new line end.NoMemory read number x r h = some_passes fields l0 l l' first old new r.0 x r.1
+next_err_passes fields l0 l l' first old new line end.Ok read number x r h = absurd h
+next_err_passes fields l0 l l' first old new line (end.Program n kind) read number x r h = absurd h
+next_err_passes fields l0 l l' first old new line end.Read read number x r h = absurd h
+next_err_passes fields l0 l l' first old new line end.Write read number x r h = absurd h
+
+-- the source failed
+pub next_fails : (fields : ℕ) (l0 l l' : Option (List ℕ)) (first old new : Reader)
+    → Told l0 l (λ a b. Goes (events_at fields first) (events_at fields old) first.held a old.held b)
+    → ReadsMore l l' old new (Err fault.Read) → new.number ≡ old.number → new.limit ≡ old.limit → no_feed new.held ≡ true
+    → Told l0 l' (λ a b. NextPasses fields first new a b (Err end.Read))
+next_fails fields l0 l l' first old new x r n k waits =
+    Told-trans l0 l l' x (told_read (events_at fields old) l l' old new r) (λ a b c p q. (
+      p.0 ++ [],
+      Passed-as (events_at fields first) (events_at fields old) (events_at fields new) first.held a (p.0 ++ []) new.held c
+          (Passed-trans (events_at fields first) (events_at fields old) (events_at fields old) first.held a p.0 old.held b [] new.held c p.1 q)
+          (λ y. ap (λ j. stream_of fields (j + 1) (pieces_of old.limit y)) (sym n) ∙ ap (λ j. stream_of fields (new.number + 1) (pieces_of j y)) (sym k)),
+      waits,
+    ))
+
+-- so far, of the section
+abbrev pub SectionGoes : List Line → ℕ → Reader → Reader → List ℕ → List ℕ → Type 0
+SectionGoes lines kept first now a b = Goes (section_at 0 first) (λ x. with_front lines (section_at kept now x)) first.held a now.held b
+
+pub section_starts : (l : Option (List ℕ)) (first : Reader) → Told l l (λ a b. SectionGoes [] 0 first first a b)
+section_starts None first = tt
+section_starts (Some a) first = (
+  [],
+  Passed-as (section_at 0 first) (section_at 0 first) (λ x. with_front [] (section_at 0 first x)) first.held a [] first.held a
+      (Passed-none (section_at 0 first) first.held a first.held a refl) (λ x. with_front-nil (section_at 0 first x)),
+)
+
+section_line : (H : List ℕ → Section) (l0 l l' : Option (List ℕ)) (lines : List Line) (kept : ℕ) (first old new : Reader) (line : Line)
+    → Told l0 l (λ a b. SectionGoes lines kept first old a b) → ReadsMore l l' old new (Ok (Some line))
+    → ((x : List ℕ) → with_front lines (section_of (old.number + 1) kept (Whole line.text ∷ pieces_of new.limit x)) ≡ H x)
+    → Told l0 l' (λ a b. Goes (section_at 0 first) H first.held a new.held b)
+section_line H l0 l l' lines kept first old new line x r h =
+    goes_on (section_at 0 first) (λ y. with_front lines (section_at kept old y)) H l0 l l' first.held old.held new.held x
+    (line_goes (λ ps. with_front lines (section_of (old.number + 1) kept ps)) H l l' old new line r h)
+
+pub section_skips : (l0 l l' : Option (List ℕ)) (lines : List Line) (kept : ℕ) (first old new : Reader) (line : Line)
+    → Told l0 l (λ a b. SectionGoes lines kept first old a b) → ReadsMore l l' old new (Ok (Some line)) → is_section_end line.text ≡ false → is_skipped line.text ≡ true → new.number ≡ old.number + 1
+    → Told l0 l' (λ a b. SectionGoes lines kept first new a b)
+section_skips l0 l l' lines kept first old new line x r e s n =
+    section_line (λ y. with_front lines (section_at kept new y)) l0 l l' lines kept first old new line x r
+    (λ y. section_skip lines (old.number + 1) kept line.text (pieces_of new.limit y) e s ∙ ap (λ k. with_front lines (section_of (k + 1) kept (pieces_of new.limit y))) (sym n))
+
+-- a line is kept, whatever follows it
+keeps_line : (lines lines' : List Line) (kept kept' n n' : ℕ) (line : Line) → is_section_end line.text ≡ false → is_skipped line.text ≡ false
+    → line.number ≡ n + 1 → n' ≡ n + 1 → lines' ≡ lines ++ line ∷ [] → kept' ≡ kept + length line.text → kept' ≤ most_kept
+    → (rest : List Piece) → with_front lines (section_of (n + 1) kept (Whole line.text ∷ rest)) ≡ with_front lines' (section_of (n' + 1) kept' rest)
+keeps_line lines lines' kept kept' n n' line e s at next more sum few rest =
+    section_keep lines (n + 1) kept line.text rest e s (omega (arith, sum, few))
+    ∙ ap (λ k. with_front (lines ++ record { number = k; text = line.text } ∷ []) (section_of (n + 1 + 1) (kept + length line.text) rest)) (sym at)
+    ∙ ap (λ k. with_front (lines ++ line ∷ []) (section_of (k + 1) (kept + length line.text) rest)) (sym next)
+    ∙ ap (λ k. with_front (lines ++ line ∷ []) (section_of (n' + 1) k rest)) (sym sum)
+    ∙ ap (λ ls. with_front ls (section_of (n' + 1) kept' rest)) (sym more)
+
+pub section_keeps : (l0 l l' : Option (List ℕ)) (lines lines' : List Line) (kept kept' : ℕ) (first old new : Reader) (line : Line)
+    → Told l0 l (λ a b. SectionGoes lines kept first old a b) → ReadsMore l l' old new (Ok (Some line)) → is_section_end line.text ≡ false → is_skipped line.text ≡ false
+    → line.number ≡ old.number + 1 → new.number ≡ old.number + 1 → lines' ≡ lines ++ line ∷ [] → kept' ≡ kept + length line.text → kept' ≤ most_kept
+    → Told l0 l' (λ a b. SectionGoes lines' kept' first new a b)
+section_keeps l0 l l' lines lines' kept kept' first old new line x r e s at n more sum few =
+    section_line (λ y. with_front lines' (section_at kept' new y)) l0 l l' lines kept first old new line x r
+    (λ y. keeps_line lines lines' kept kept' old.number new.number line e s at n more sum few (pieces_of new.limit y))
+
+pub section_kept : (l0 l l' : Option (List ℕ)) (lines lines' : List Line) (kept kept' : ℕ) (first old new : Reader) (o : Option Line) (line : Line) → o ≡ Some line
+    → Told l0 l (λ a b. section_of (first.number + 1) 0 (ahead first a) ≡ with_front lines (section_of (old.number + 1) kept (ahead old b)))
+    → Told l l' (λ a b. Gives (ahead old a) (ahead new b) (new.held ++ b) (Ok o)) → is_section_end line.text ≡ false → is_skipped line.text ≡ false
+    → line.number ≡ old.number + 1 → new.number ≡ old.number + 1 → lines' ≡ lines ++ line ∷ [] → kept' ≡ kept + length line.text → kept' ≤ most_kept
+    → Told l0 l' (λ a b. section_of (first.number + 1) 0 (ahead first a) ≡ with_front lines' (section_of (new.number + 1) kept' (ahead new b)))
+section_kept l0 l l' lines lines' kept kept' first old new o line is x y e s at n more sum few =
+    let P : Option Line → Type 0 = λ v. Told l l' (λ a b. Gives (ahead old a) (ahead new b) (new.held ++ b) (Ok v)) in
+    Told-trans l0 l l' x (subst P is y) (λ a b d p q. p ∙ ap (λ ps. with_front lines (section_of (old.number + 1) kept ps)) q
+    ∙ keeps_line lines lines' kept kept' old.number new.number line e s at n more sum few (ahead new d))
+
+-- the section's last line
+pub section_found : (l0 l l' : Option (List ℕ)) (lines : List Line) (kept : ℕ) (first old new : Reader) (line : Line) (g : CodeGathered)
+    → Told l0 l (λ a b. SectionGoes lines kept first old a b) → ReadsMore l l' old new (Ok (Some line)) → is_section_end line.text ≡ true → line.number ≡ old.number + 1
+    → g.lines ≡ lines → g.end.line ≡ line.number
+    → Told l0 l' (λ a b. SectionPasses first new a b (Ok g))
+section_found l0 l l' lines kept first old new line g x r e at same_lines same_line =
+    Told-map l0 l' (section_line (λ y. Gathered g.lines g.end.line true (pieces_of new.limit y)) l0 l l' lines kept first old new line x r
+    (λ y. section_end lines (old.number + 1) kept line.text (pieces_of new.limit y) e
+    ∙ ap (λ k. Gathered lines k true (pieces_of new.limit y)) (sym (same_line ∙ at))
+    ∙ ap (λ ls. Gathered ls g.end.line true (pieces_of new.limit y)) (sym same_lines)))
+    (λ a b p. (p.0, p.1.bytes, λ f. p.1))
+
+-- the input ended before the section did
+pub section_ends : (l0 l l' : Option (List ℕ)) (lines : List Line) (kept : ℕ) (first old new : Reader) (g : CodeGathered)
+    → Told l0 l (λ a b. SectionGoes lines kept first old a b) → ReadsMore l l' old new (Ok None) → g.end.found ≡ false
+    → Told l0 l' (λ a b. SectionPasses first new a b (Ok g))
+section_ends l0 l l' lines kept first old new g x r e =
+    Told-trans l0 l l' x (at_end l l' r) (λ a b c p q. (p.0, p.1.bytes ∙ ap (λ s. p.0 ++ s) q, λ f. absurd (false≢true (sym e ∙ f)))) where
+      at_end : (m m' : Option (List ℕ)) → ReadsMore m m' old new (Ok None) → Told m m' (λ a b. old.held ++ a ≡ new.held ++ b)
+      at_end None m' r = tt
+      at_end (Some a) None r = absurd r.1
+      at_end (Some a) (Some b) r = ap (λ s. old.held ++ s) r.1 ∙ sym (append_assoc old.held r.0 b) ∙ ap (λ s. s ++ b) (r.2.0 ∙ sym r.2.1)
+
+-- the source failed before the section ended
+pub section_fails : (l0 l l' : Option (List ℕ)) (lines : List Line) (kept : ℕ) (first old new : Reader)
+    → Told l0 l (λ a b. SectionGoes lines kept first old a b) → ReadsMore l l' old new (Err fault.Read) → no_feed new.held ≡ true
+    → Told l0 l' (λ a b. SectionPasses first new a b (Err end.Read))
+section_fails l0 l l' lines kept first old new x r waits =
+    let G : List ℕ → Section = λ y. with_front lines (section_at kept old y) in
+    Told-trans l0 l l' x (told_read G l l' old new r) (λ a b c p q.
+    (G, p.0 ++ [], Passed-trans (section_at 0 first) G G first.held a p.0 old.held b [] new.held c p.1 q, refl, waits))
+
+-- some bytes were taken
+pub section_lacks : (l0 l l' : Option (List ℕ)) (lines : List Line) (kept : ℕ) (first old new : Reader) (more : List ℕ)
+    → Told l0 l (λ a b. SectionGoes lines kept first old a b) → Consumes l l' more
+    → Told l0 l' (λ a b. SectionPasses first new a b (Err end.NoMemory))
+section_lacks l0 l l' lines kept first old new more x came =
+    let G : List ℕ → Section = λ y. with_front lines (section_at kept old y) in
+    Told-trans l0 l l' x (told_some G l l' old.held more came) (λ a b c p q.
+    (p.0 ++ q.0, p.1.bytes ∙ ap (λ s. p.0 ++ s) q.1.bytes ∙ sym (append_assoc p.0 q.0 c)))
+
+-- a line that is not kept
+pub section_err : (l0 l l' : Option (List ℕ)) (lines : List Line) (kept : ℕ) (first old new : Reader) (more : List ℕ) (k k' : Kept) (line : Line) (e : End)
+    → Told l0 l (λ a b. SectionGoes lines kept first old a b) → Consumes l l' more → Keeps k line k' (Err e)
+    → Told l0 l' (λ a b. SectionPasses first new a b (Err e))
+section_err l0 l l' lines kept first old new more k k' line (end.Program n kind) x came h =
+    Told-trans l0 l l' x (told_some (λ y. with_front lines (section_at kept old y)) l l' old.held more came) (λ a b c p q. tt)
+section_err l0 l l' lines kept first old new more k k' line end.NoMemory x came h = section_lacks l0 l l' lines kept first old new more x came
+section_err l0 l l' lines kept first old new more k k' line end.Ok x came h = absurd h
+section_err l0 l l' lines kept first old new more k k' line (end.Input n kind) x came h = absurd h
+section_err l0 l l' lines kept first old new more k k' line end.Read x came h = absurd h
+section_err l0 l l' lines kept first old new more k k' line end.Write x came h = absurd h
