@@ -6,7 +6,7 @@ ghost use Rattle.std.specs.Cmp.{partial_equiv_from_equiv};
 ghost use Rattle.std.specs.Cmp.Lexicographic.{pointwise, slice_cmp, nat_list_eq_equiv, nat_list_cmp_total, texts_ties, texts_po};
 ghost use Rattle.ax_keys.specs.Keys.{is_key, is_key_byte};
 
-use ax_base::{Duplicate, NoMemory};
+use ax_base::{Duplicate, ListOf, NoMemory};
 use std::alloc::Global;
 use std::cmp::Ordering;
 use std::convert::AsStr;
@@ -18,6 +18,9 @@ use std::marker::Model;
 pub struct Key {
     text: String,
 }
+
+/// A list of keys.
+pub type Keys = ListOf<Key>;
 
 impl Model for Key {
     ghost use Rattle.std.specs.Prelude.{◌≡◌, ℕ, List, true, string_bytes};

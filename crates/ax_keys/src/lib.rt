@@ -13,4 +13,4 @@ pub mod laws;
 mod tests;
 
 pub use groups::{group, index_of_group, range_of_index, spread};
-pub use key::Key;
+pub use key::{Key, Keys};

@@ -1,9 +1,8 @@
 -- How far a run has come.
-use Rattle.std.proofs.Common.{◌≡◌, ℕ, ◌+◌, List, [], ◌∷◌, ◌++◌, length, take, true, cond, arith, Option, Some, None, refl, sym, ap, ◌∙◌, append_assoc, subst}
+use Rattle.std.proofs.Common.{◌≡◌, ℕ, List, [], ◌∷◌, ◌++◌, true, cond, Option, Some, None, refl, sym, ap, ◌∙◌, append_assoc, subst}
 use Rattle.std.specs.Str.{bytes_eq}
 use Rattle.std.specs.Io.KnownBytes.{Appends}
-use Rattle.std.proofs.lemmas.List.{append-nil, take_all}
-use Rattle.std.proofs.Math.Seq.{take-append-add}
+use Rattle.std.proofs.lemmas.List.{append-nil}
 use Rattle.ax_base.specs.Outside.{Told}
 use Rattle.ax_base.specs.Reader.{Reader}
 use Rattle.ax_base.proofs.OutsideLemmas.{Appends-none, Appends-more, Told-trans}
@@ -24,6 +23,7 @@ use Rattle.ax_task.specs.Passes.{Passed, events_at, in_front, NextPasses, Taken,
 use Rattle.ax_input.specs.declared.event.Event.{Event as CodeEvent}
 use Rattle.ax_task.proofs.Feeds.{Passed-none, Passed-trans, Passed-as, Passed-map}
 use Rattle.ax_task.proofs.Passing.{Goes}
+use Rattle.ax_task.proofs.RunLemmas.{AppendsSome-none, AppendsSome-all, AppendsSome-behind}
 use Rattle.ax_task.specs.declared.end.End.{End}
 use Rattle.ax_task.specs.declared.end.End.TheVariants as end
 
@@ -149,14 +149,6 @@ pub at_fault : (l0 l1 l2 h0 h1 : Option (List ℕ)) (p : Program) (F G H : List 
 at_fault l0 l1 l2 h0 h1 p F G H held0 held1 held2 m e x y =
     Told-trans l0 l1 l2 x y (λ a b c g n. fault_at p F G H held0 a held1 b held2 c m h0 h1 e g n)
 
--- a prefix behind what was written before
-some_more : (h0 h1 h2 : Option (List ℕ)) (x y z : List ℕ) → Appends h0 h1 x → AppendsSome h1 h2 y → x ++ y ≡ z → AppendsSome h0 h2 z
-some_more h0 h1 h2 x y z p q e =
-    (length x + q.0, Appends-more h0 h1 h2 x (take q.0 y) (take (length x + q.0) z) p q.1 (sym (take-append-add x y q.0) ∙ ap (take (length x + q.0)) e))
-
-all_of : (h0 h1 : Option (List ℕ)) (x : List ℕ) → Appends h0 h1 x → AppendsSome h0 h1 x
-all_of h0 h1 x p = let P : List ℕ → Type 0 = Appends h0 h1 in (length x, subst P (sym (take_all (length x) x (omega arith))) p)
-
 -- the reader of events gives no further event, and no fault of the input
 stop_at : (fields : ℕ) (p : Program) (F : List ℕ → Stream) (r r' : Reader) (held0 a b c : List ℕ) (m : Map) (h0 h1 : Option (List ℕ)) (reads reads' : ℕ) (e : End)
     → GoneOn p F (events_at fields r) held0 a r.held b m h0 h1 → NextPasses fields r r' b c (Err e) → ReadCause {T = Option CodeEvent} reads reads' (Err e)
@@ -183,7 +175,7 @@ stop_at fields p F r r' held0 a b c m h0 h1 reads reads' end.NoMemory g n cause 
     passed = Passed-trans F (λ x. in_front g.done (events_at fields r x)) (λ x. in_front g.done (n.0 x)) held0 a g.w r.held b n.1 n.2 c g.passed
         (Passed-map (in_front g.done) (events_at fields r) n.0 r.held b n.1 n.2 c n.3);
   },
-  all_of h0 h1 (text_of (sync p g.done).entries) g.grown,
+  AppendsSome-all h0 h1 (text_of (sync p g.done).entries) g.grown,
 )
 stop_at fields p F r r' held0 a b c m h0 h1 reads reads' end.Ok g n cause = tt
 stop_at fields p F r r' held0 a b c m h0 h1 reads reads' end.Write g n cause = absurd cause
@@ -202,7 +194,8 @@ part_at : (p : Program) (F G H : List ℕ → Stream) (held0 a held1 b held2 c :
     → (t : Taken F held0 a c) × AppendsSome h0 h2 (text_of (sync p t.done).entries)
 part_at p F G H held0 a held1 b held2 c m h0 h1 h2 e g n wrote = (
   record { done = g.done ++ e ∷ []; w = g.w ++ n.0; rest = held2; behind = H; passed = event_passed F G H held0 a held1 b held2 c g.w g.done e g.passed n },
-  some_more h0 h1 h2 (text_of (sync p g.done).entries) (text_of (stepped p m e).entries) (text_of (sync p (g.done ++ e ∷ [])).entries) g.grown wrote (text_more p g.done m e g.wm g.stands),
+  AppendsSome-behind h0 h1 h2 (text_of (sync p g.done).entries) (text_of (stepped p m e).entries) [] (text_of (sync p (g.done ++ e ∷ [])).entries) g.grown wrote
+      (ap (λ t. text_of (sync p g.done).entries ++ t) (append-nil (text_of (stepped p m e).entries)) ∙ text_more p g.done m e g.wm g.stands),
 )
 
 pub at_part : (l0 l1 l2 h0 h1 h2 : Option (List ℕ)) (p : Program) (F G H : List ℕ → Stream) (held0 held1 held2 : List ℕ) (m : Map) (e : Event) (faults faults' : ℕ) (end : End)
@@ -223,7 +216,7 @@ pub at_once : (l h : Option (List ℕ)) (p : Program) (F : List ℕ → Stream) 
 at_once None h p F held = tt
 at_once (Some a) h p F held = (
   record { done = []; w = []; rest = held; behind = F; passed = Passed-none F held a held a refl },
-  (0, Appends-none h),
+  AppendsSome-none h [],
 )
 
 -- an event is a row: its step is the run of the handler

@@ -29,6 +29,7 @@ use Rattle.ax_task.specs.declared.section.Gathered.{Gathered as CodeGathered}
 use Rattle.ax_task.specs.declared.end.End.{End}
 use Rattle.ax_task.specs.declared.end.End.TheVariants as end
 use Rattle.ax_task.proofs.Feeds.{front_nil, back_nil, none_whole, Passed-trans, Passed-as, Passed-map}
+use Rattle.ax_task.proofs.RunLemmas.{AppendsSome-none}
 use Rattle.ax_task.proofs.Whole.{parsed}
 
 -- what the whole lines mean that were taken
@@ -55,7 +56,7 @@ of_taken G a w rest b P p h = by_end p.ended where
 -- where nothing was written, it is a part of any text
 nothing_written : (h : Option (List ℕ)) (s : Parsed) → WrotePart h h s
 nothing_written h (BadProgram line kind) = Appends-none h
-nothing_written h (Runs p s) = ([], lawful_so_far_front true [] (sync p s.events).entries, (0, Appends-none h))
+nothing_written h (Runs p s) = ([], lawful_so_far_front true [] (sync p s.events).entries, AppendsSome-none h [])
 
 stop_taken : (a b taken : List ℕ) (h : Option (List ℕ)) → a ≡ taken ++ b → OfTaken a b (WrotePart h h)
 stop_taken a b taken h e = (taken, whole_lines taken, e, inl refl, nothing_written h (parse (whole_lines taken)))

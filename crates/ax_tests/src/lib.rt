@@ -6,6 +6,8 @@ mod events;
 #[cfg(test)]
 mod expect;
 #[cfg(test)]
+mod failing;
+#[cfg(test)]
 mod faulty;
 pub mod inputs;
 #[cfg(test)]

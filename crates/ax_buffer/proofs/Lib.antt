@@ -1,0 +1,5 @@
+pub mod ListLemmas
+pub mod ChainLemmas
+pub mod PushLemmas
+pub mod TakeLemmas
+pub mod BatchLemmas

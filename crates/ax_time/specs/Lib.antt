@@ -1,0 +1,4 @@
+pub mod Sets
+pub mod Times
+pub mod Timers
+pub mod Kept

@@ -1,0 +1,228 @@
+//! The timers of all keys.
+ghost use Rattle.std.specs.Prelude.{◌≡◌, ℕ, ℤ, List, [], ◌++◌, OnOk, OnErr, IfOk, IfNone, IfSome, FitsSigned, ◌↔◌};
+ghost use Rattle.std.specs.Int.{w64};
+ghost use Rattle.std.specs.List.{Contains};
+ghost use Rattle.std.specs.List.Sorted.{IsStrictlySortedBy};
+ghost use Rattle.std.specs.Ordering.{int_cmp};
+ghost use Rattle.ax_time.specs.Times.{insert_time, remove_time, least_time, later_times, HasDue};
+ghost use Rattle.ax_time.specs.Timers.{HasNone, IsDue, IsDueBehind, IsFirst, IsTimer, PutsTimes, key_cmp, listed_cmp, timer, times_of};
+ghost use Rattle.ax_time.specs.Kept.{listed, timers_at};
+
+use crate::due::{due_set, first_due, list_keys, next_due};
+use crate::sets::{add, has, take_out};
+use crate::timer::{Timer, TimerList};
+use ax_base::{Duplicate, NoMemory, Nums};
+use ax_keys::{Key, Keys};
+use std::alloc::Global;
+use std::collections::{BTreeMap, BTreeSet};
+use std::marker::Model;
+
+/// The timers of all keys, which contracts see as a list by key and then time. A key has a timer at a time once or not at all.
+///
+/// No call walks over all keys to answer for one: each takes logarithmic time, but for the lists, which take time by what they name.
+#[derive(Debug, Drop)]
+pub struct Timers {
+    alloc: Global,
+    // the times of each key
+    by_key: BTreeMap<Key, BTreeSet<i64>>,
+    // the keys of each time
+    by_time: BTreeMap<i64, BTreeSet<Key>>,
+}
+
+impl Model for Timers {
+    ghost use Rattle.std.specs.Prelude.{List};
+    ghost use Rattle.ax_time.specs.declared.timer.Timer.{Timer};
+
+    ghost Value = { List Timer };
+
+    ghost use Rattle.ax_time.specs.Kept.{timers_in, IsKept};
+
+    ghost view = { timers_in };
+
+    ghost invariant = { IsKept };
+}
+
+impl Timers {
+    /// No timer.
+    pub fn new(alloc: Global) -> Timers
+        ensures { result ≡ [] }
+    {
+        Timers {
+            alloc,
+            by_key: BTreeMap::new(alloc),
+            by_time: BTreeMap::new(alloc),
+        }
+    }
+
+    /// Sets a timer. One that is set already stays as it is. After `NoMemory` nothing has changed.
+    pub fn set(&mut self, key: &Key, time: i64) -> Result<(), NoMemory>
+        ensures ok { OnOk result (PutsTimes self.old self.new key.now (insert_time time (times_of self.old key.now))) }
+        ensures err { OnErr result (self.new ≡ self.old) }
+    {
+        self.set_at(key, &time)
+    }
+
+    // The same, of a time behind a reference.
+    fn set_at(&mut self, key: &Key, time: &i64) -> Result<(), NoMemory>
+        ensures ok { OnOk result (PutsTimes self.old self.new key.now (insert_time time.now (times_of self.old key.now))) }
+        ensures err { OnErr result (self.new ≡ self.old) }
+    {
+        if has(&self.by_key, key, time) {
+            return Ok(());
+        }
+        add(self.alloc, &mut self.by_time, time, key)?;
+        let Err(NoMemory) = add(self.alloc, &mut self.by_key, key, time) else {
+            return Ok(());
+        };
+        take_out(&mut self.by_time, time, key);
+        Err(NoMemory)
+    }
+
+    /// Takes a timer off. One that isn't set changes nothing.
+    pub fn unset(&mut self, key: &Key, time: i64)
+        ensures { PutsTimes self.old self.new key.now (remove_time time (times_of self.old key.now)) }
+    {
+        self.unset_at(key, &time);
+    }
+
+    // The same, of a time behind a reference.
+    fn unset_at(&mut self, key: &Key, time: &i64)
+        ensures { PutsTimes self.old self.new key.now (remove_time time.now (times_of self.old key.now)) }
+    {
+        take_out(&mut self.by_key, key, time);
+        take_out(&mut self.by_time, time, key);
+    }
+
+    /// The least time of a key's timers, and `None` exactly where it has none.
+    pub fn least_of(&self, key: &Key) -> Option<i64>
+        ensures least { result ≡ least_time (times_of self.now key.now) }
+        ensures rising { IsStrictlySortedBy int_cmp (times_of self.now key.now) }
+    {
+        self.least_at(key)
+    }
+
+    // The same, of which the time is known to have 64 bits.
+    fn least_at(&self, key: &Key) -> Option<i64>
+        ensures least { result ≡ least_time (times_of self.now key.now) }
+        ensures rising { IsStrictlySortedBy int_cmp (times_of self.now key.now) }
+        ensures fits { IfSome result (λ t. FitsSigned w64 t) }
+    {
+        match self.by_key.get(key) {
+            Some(times) => first_time(times),
+            None => None,
+        }
+    }
+
+    /// Takes off the timer of a key that has the least time, and gives that time. `None` exactly where the key has none.
+    pub fn take_least(&mut self, key: &Key) -> Option<i64>
+        ensures least { result ≡ least_time (times_of self.old key.now) }
+        ensures times { PutsTimes self.old self.new key.now (later_times (times_of self.old key.now)) }
+    {
+        let time = self.least_at(key)?;
+        self.unset(key, time);
+        Some(time)
+    }
+
+    /// The times of a key's timers, rising.
+    pub fn times_of(&self, alloc: Global, key: &Key) -> Result<Nums, NoMemory>
+        ensures times { IfOk result (λ times. times ≡ times_of self.now key.now) }
+        ensures rising { IfOk result (λ times. IsStrictlySortedBy int_cmp times) }
+    {
+        match self.by_key.get(key) {
+            Some(times) => list_times(alloc, times),
+            None => Ok(Nums::new(alloc)),
+        }
+    }
+
+    /// All timers, by key and then by time.
+    pub fn all(&self, alloc: Global) -> Result<TimerList, NoMemory>
+        ensures timers { IfOk result (λ timers. timers ≡ self.now) }
+        ensures rising { IfOk result (λ timers. IsStrictlySortedBy listed_cmp timers) }
+    {
+        list_all(alloc, &self.by_key)
+    }
+
+    /// The keys with a timer at or below a watermark, rising by their bytes, each once. Takes time by the timers that are due.
+    pub fn due_keys(&self, alloc: Global, w: i64) -> Result<Keys, NoMemory>
+        ensures due { IfOk result (λ keys. (q : List ℕ) → Contains keys q ↔ HasDue w (times_of self.now q)) }
+        ensures rising { IfOk result (λ keys. IsStrictlySortedBy key_cmp keys) }
+    {
+        let due = due_set(alloc, &self.by_time, &w)?;
+        list_keys(alloc, due)
+    }
+
+    /// The time and the key of the timer that is due first at a watermark: the least by time and then by key. `None` exactly
+    /// where no timer is due.
+    pub fn least_due(&self, w: i64) -> Option<(i64, &Key)>
+        ensures none { IfNone result (HasNone (IsTimer self.now) (IsDue w)) }
+        ensures first { IfSome result (λ r. IsFirst (IsTimer self.now) (IsDue w) (timer r.1.now r.0)) }
+    {
+        first_due(&self.by_time, &w)
+    }
+
+    /// The same of the timers behind a place: those of a later time, and those of this time and a later key. At the place a
+    /// timer need not be set. So a caller goes on behind a timer that it doesn't fire.
+    pub fn next_due(&self, time: i64, key: &Key, w: i64) -> Option<(i64, &Key)>
+        ensures none { IfNone result (HasNone (IsTimer self.now) (IsDueBehind (timer key.now time) w)) }
+        ensures first { IfSome result (λ r. IsFirst (IsTimer self.now) (IsDueBehind (timer key.now time) w) (timer r.1.now r.0)) }
+    {
+        next_due(&self.by_time, &time, key, &w)
+    }
+}
+
+// The least of some times.
+fn first_time(times: &BTreeSet<i64>) -> Option<i64>
+    ensures least { result ≡ least_time times.now.keys }
+    ensures fits { IfSome result (λ t. FitsSigned w64 t) }
+{
+    match times.first() {
+        Some(time) => Some(*time),
+        None => None,
+    }
+}
+
+// A list of times.
+fn list_times(alloc: Global, times: &BTreeSet<i64>) -> Result<Nums, NoMemory>
+    ensures { IfOk result (λ list. list ≡ times.now.keys) }
+{
+    let mut list = Nums::new(alloc);
+    copy_times(&mut list, times)?;
+    Ok(list)
+}
+
+// Puts times at the end of a list.
+fn copy_times(list: &mut Nums, times: &BTreeSet<i64>) -> Result<(), NoMemory>
+    ensures { OnOk result (list.new ≡ list.old ++ times.now.keys) }
+{
+    for time in times {
+        list.push(*time)?;
+    }
+    Ok(())
+}
+
+// A list of all timers.
+fn list_all(alloc: Global, by_key: &BTreeMap<Key, BTreeSet<i64>>) -> Result<TimerList, NoMemory>
+    ensures { IfOk result (λ timers. timers ≡ listed by_key.now.entries) }
+{
+    let mut timers = TimerList::new(alloc);
+    for (key, times) in by_key {
+        list_timers(alloc, &mut timers, key, times)?;
+    }
+    Ok(timers)
+}
+
+// Puts the timers of one key at the end of a list.
+fn list_timers(
+    alloc: Global,
+    list: &mut TimerList,
+    key: &Key,
+    times: &BTreeSet<i64>,
+) -> Result<(), NoMemory>
+    ensures { OnOk result (list.new ≡ list.old ++ timers_at key.now times.now.keys) }
+{
+    for time in times {
+        let key = key.copy(alloc)?;
+        list.push(Timer { key, time: *time })?;
+    }
+    Ok(())
+}
