@@ -12,7 +12,7 @@ pub struct Item {
     pub id: Id,
     /// Which of the context's outstanding requests it is, from 0.
     pub slot: u8,
-    /// The key whose states the request names.
+    /// The key whose states are asked.
     pub key: Key,
     /// What is asked.
     pub request: Request,
