@@ -1,6 +1,6 @@
 -- The accounts of all keys.
 use Rattle.std.specs.Prelude.{◌≡◌, ◌≢◌, ℕ, ◌+◌, true, not, List, [], ◌∷◌, All, Option, unwrap_or, sum_by, if◌then◌else◌, ◌++◌, ℤ}
-use Rattle.std.specs.Option.{is_some, option_map}
+use Rattle.std.specs.Option.{option_map}
 use Rattle.std.specs.List.Sorted.{IsStrictlySortedBy}
 use Rattle.std.specs.Map.{lookup, keys_of, values_of}
 use Rattle.ax_context.specs.declared.id.Id.{Id}
@@ -71,19 +71,3 @@ mark epoch time = Mark epoch time 0
 -- the idle keys after a mark came for a key with this part
 abbrev pub idle_with : List ℕ → Part → List (List ℕ) → List (List ℕ)
 idle_with key part idle = if is_free part then idle ++ key ∷ [] else idle
-
--- how many contexts a part names: its owner and its waiting rows
-abbrev pub rows_in : List Waiting → ℕ
-rows_in [] = 0
-rows_in (Row id ∷ items) = 1 + rows_in items
-rows_in (Mark epoch time fired ∷ items) = rows_in items
-
-abbrev pub owners_in : Part → ℕ
-owners_in part = if is_some part.owner then 1 else 0
-
--- how many keys have an owner, and how many rows wait, over all keys
-abbrev pub owners : Accounts → ℕ
-owners = total owners_in
-
-abbrev pub waiting_rows : Accounts → ℕ
-waiting_rows = total (λ part. rows_in part.waiting)
