@@ -9,8 +9,8 @@ use Rattle.ax_base.specs.Lines.{no_feed}
 use Rattle.ax_base.proofs.PieceLemmas.{cut_of-append}
 use Rattle.ax_machine.specs.Entries.{Key, Entry, Watermark, Block, numbers_text, entry_text, text_of}
 use Rattle.ax_machine.specs.Entries as entry
-use Rattle.ax_input.specs.Spellings.{behind_spaces}
-use Rattle.ax_input.specs.OutLines.{OutLine, Out, Mark, out_line_of, line_of, spelled, is_line}
+use Rattle.ax_machine.specs.OutLines.{OutLine, Out, Mark, line_of, spelled, behind_spaces}
+use Rattle.ax_input.specs.OutLines.{out_line_of, is_line}
 use Rattle.ax_input.specs.Laws.{is_plain, are_plain, IsDetermined}
 use Rattle.ax_input.proofs.LineLemmas.{line_back, no_feed_line}
 

@@ -14,9 +14,10 @@ use Rattle.ax_base.proofs.PieceLemmas.{pieces_of-line}
 use Rattle.ax_keys.specs.Keys.{is_key, is_key_byte}
 use Rattle.ax_syntax.specs.Words.{Word, keyword_of, is_letter, is_name_byte, is_lettered, is_value_word, is_name}
 use Rattle.ax_machine.specs.Events.{Event, Row}
-use Rattle.ax_input.specs.Spellings.{behind_spaces, is_number, numbers_of, both}
+use Rattle.ax_input.specs.Spellings.{is_number, numbers_of, both}
 use Rattle.ax_input.specs.Events.{Good, Bad, event_of, event_by, row_by, row_with, event_words, event_line, is_event, is_blank_or_comment}
-use Rattle.ax_input.specs.OutLines.{OutLine, Out, Mark, Head, Value, Item, Entry, Timer, End, is_few, when, out_by, mark_by, head_by, is_place, value_by, item_by, entry_by, timer_by, end_by, out_line_of, line_words, line_of, is_line}
+use Rattle.ax_machine.specs.OutLines.{OutLine, Out, Mark, Head, Value, Item, Entry, Timer, End, line_words, line_of, behind_spaces}
+use Rattle.ax_input.specs.OutLines.{is_few, when, out_by, mark_by, head_by, is_place, value_by, item_by, entry_by, timer_by, end_by, out_line_of, is_line}
 use Rattle.ax_input.specs.Laws.{IsEventBack, IsLineBack, IsOneLine}
 use Rattle.ax_input.proofs.SpellingLemmas.{is_ink, is_solid, words_of-spaced, no_feed-spaced, number_of-signed, number_of-decimal, solid_decimal, solid_signed, solid_numbers, numbers_of-signed}
 

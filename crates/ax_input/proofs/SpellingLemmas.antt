@@ -13,7 +13,8 @@ use Rattle.ax_base.specs.Words.{is_space, words_from, words_of, before_words}
 use Rattle.ax_base.specs.Lines.{no_feed}
 use Rattle.ax_base.proofs.PieceLemmas.{no_feed-append}
 use Rattle.ax_syntax.specs.Words.{Word}
-use Rattle.ax_input.specs.Spellings.{behind_spaces, spaced, is_number, onto_some, numbers_of}
+use Rattle.ax_machine.specs.OutLines.{behind_spaces, spaced}
+use Rattle.ax_input.specs.Spellings.{is_number, onto_some, numbers_of}
 
 -- a byte above the space
 abbrev pub is_ink : ℕ → Bool

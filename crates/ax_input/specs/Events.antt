@@ -8,7 +8,8 @@ use Rattle.ax_base.specs.Words.{words_of}
 use Rattle.ax_keys.specs.Keys.{is_key}
 use Rattle.ax_syntax.specs.Words.{Word, same_word}
 use Rattle.ax_machine.specs.Events.{Event, Row}
-use Rattle.ax_input.specs.Spellings.{spaced, is_number, numbers_of}
+use Rattle.ax_machine.specs.OutLines.{spaced}
+use Rattle.ax_input.specs.Spellings.{is_number, numbers_of}
 
 -- blank, or the first word begins with `#`
 abbrev pub is_blank_or_comment : List Word → Bool

@@ -6,7 +6,8 @@ use Rattle.ax_machine.specs.Events.{Event}
 use Rattle.ax_machine.specs.Entries.{Entry, Watermark, Block, text_of, entry_text}
 use Rattle.ax_machine.specs.Entries as entry
 use Rattle.ax_input.specs.Events.{Good, event_of, event_line, is_event, fields_in, is_skipped}
-use Rattle.ax_input.specs.OutLines.{OutLine, Out, Mark, out_line_of, line_of, is_line}
+use Rattle.ax_machine.specs.OutLines.{OutLine, Out, Mark, line_of}
+use Rattle.ax_input.specs.OutLines.{out_line_of, is_line}
 
 -- read with as many fields as it has values, an event is the event that was written; it is no comment
 abbrev pub IsEventBack : Event → Type 0

@@ -1,27 +1,12 @@
--- The lines of an output and of a snapshot block.
+-- Which words are a line of an output or of a snapshot block.
 use Rattle.std.specs.Prelude.{ℕ, ◌^◌, ℤ, pos, negsuc, List, [], ◌∷◌, ◌++◌, length, map, Bool, Option, Some, None, if◌then◌else◌, ◌&&◌, nat_le, nat_lt}
 use Rattle.std.specs.List.{list_all}
 use Rattle.std.specs.Fmt.{signed_decimal, decimal}
 use lib.Chars.{codes}
 use Rattle.ax_keys.specs.Keys.{is_key}
 use Rattle.ax_syntax.specs.Words.{Word, same_word, is_name}
-use Rattle.ax_machine.specs.Entries.{Key}
-use Rattle.ax_input.specs.Spellings.{spaced, is_number, numbers_of, one_number, two_numbers}
-
-pub data OutLine : Type 0 where
-  -- what a handler emits
-  Out : (key : Key) → (values : List ℤ) → OutLine
-  -- a watermark
-  Mark : (time : ℤ) → OutLine
-  -- the head of a snapshot block
-  Head : (id wm : ℤ) → OutLine
-  -- a value, one item of a list, and one entry of a map
-  Value : (key : Key) → (state : Word) → (number : ℤ) → OutLine
-  Item : (key : Key) → (state : Word) → (number : ℤ) → OutLine
-  Entry : (key : Key) → (state : Word) → (at number : ℤ) → OutLine
-  Timer : (key : Key) → (time : ℤ) → OutLine
-  -- the end of the block
-  End : (id : ℤ) → (count : ℕ) → OutLine
+use Rattle.ax_machine.specs.OutLines.{OutLine, Out, Mark, Head, Value, Item, Entry, Timer, End}
+use Rattle.ax_input.specs.Spellings.{is_number, numbers_of, one_number, two_numbers}
 
 -- from 1 to 16
 abbrev pub is_few : ℕ → Bool
@@ -112,24 +97,6 @@ out_line_of [] = None
 out_line_of (w ∷ ws) =
     if same_word w (codes "o") then out_of ws else
     if same_word w (codes "w") then mark_by (one_number ws) else snap_line_by w ws
-
--- the words of a line
-abbrev pub line_words : OutLine → List Word
-line_words (Out key values) = codes "o" ∷ key ∷ map signed_decimal values
-line_words (Mark time) = codes "w" ∷ signed_decimal time ∷ []
-line_words (Head id wm) = codes "s" ∷ signed_decimal id ∷ signed_decimal wm ∷ []
-line_words (Value key state n) = codes "c" ∷ key ∷ state ∷ signed_decimal n ∷ []
-line_words (Item key state n) = codes "l" ∷ key ∷ state ∷ signed_decimal n ∷ []
-line_words (Entry key state k n) = codes "m" ∷ key ∷ state ∷ signed_decimal k ∷ signed_decimal n ∷ []
-line_words (Timer key time) = codes "t" ∷ key ∷ signed_decimal time ∷ []
-line_words (End id count) = codes "e" ∷ signed_decimal id ∷ decimal count ∷ []
-
--- the one spelling, without and with its line feed
-abbrev pub line_of : OutLine → List ℕ
-line_of l = spaced (line_words l)
-
-abbrev pub spelled : OutLine → List ℕ
-spelled l = line_of l ++ 10 ∷ []
 
 -- a line that has a spelling: keys are keys, states are names, numbers have 64 bits, and an emit has 1 to 16 of them
 abbrev pub is_line : OutLine → Bool

@@ -1,7 +1,7 @@
 -- What the code holds, as the definitions take it.
 use Rattle.std.specs.Prelude.{Option, Some, None}
 use Rattle.ax_machine.specs.Events.{Event, Row}
-use Rattle.ax_input.specs.OutLines.{OutLine, Out, Mark, Head, Value, Item, Entry, Timer, End}
+use Rattle.ax_machine.specs.OutLines.{OutLine, Out, Mark, Head, Value, Item, Entry, Timer, End}
 use Rattle.ax_input.specs.declared.event.Event.{Event as CodeEvent}
 use Rattle.ax_input.specs.declared.event.Event.TheVariants as event
 use Rattle.ax_input.specs.declared.line.OutLine.{OutLine as CodeLine}

@@ -1,17 +1,7 @@
--- How lines are spelled, and which numbers their words are.
+-- Which numbers words are.
 use Rattle.std.specs.Prelude.{ℕ, ℤ, pos, negsuc, ◌^◌, List, [], ◌∷◌, ◌++◌, Bool, Option, Some, None, nat_lt}
 use Rattle.ax_base.specs.Numbers.{number_of}
 use Rattle.ax_syntax.specs.Words.{Word}
-
--- words, each behind a space
-abbrev pub behind_spaces : List Word → List ℕ
-behind_spaces [] = []
-behind_spaces (w ∷ ws) = 32 ∷ (w ++ behind_spaces ws)
-
--- words with one space between them
-abbrev pub spaced : List Word → List ℕ
-spaced [] = []
-spaced (w ∷ ws) = w ++ behind_spaces ws
 
 -- a number of 64 bits
 abbrev pub is_number : ℤ → Bool

@@ -3,7 +3,8 @@ ghost use Rattle.std.specs.Prelude.{◌≡◌, ℕ, ℤ, List, true};
 ghost use Rattle.ax_machine.specs.Events.{Event};
 ghost use Rattle.ax_machine.specs.Entries.{Key, Entry, Watermark, Out as OutEntry, Mark as MarkEntry, entry_text};
 ghost use Rattle.ax_input.specs.Events.{is_event, event_line};
-ghost use Rattle.ax_input.specs.OutLines.{OutLine, Out, Mark, is_line, line_of, spelled};
+ghost use Rattle.ax_machine.specs.OutLines.{OutLine, Out, Mark, line_of, spelled};
+ghost use Rattle.ax_input.specs.OutLines.{is_line};
 ghost use Rattle.ax_input.specs.Laws.{IsEventBack, IsLineBack, IsOneLine, IsDetermined};
 
 /// An event that was written is read back with as many fields as it has values, and it is no comment.

@@ -2,9 +2,8 @@
 ghost use Rattle.std.specs.Prelude.{◌≡◌, ◌++◌, ◌∷◌, [], map, OnOk, OnErr};
 ghost use Rattle.std.specs.Fmt.{signed_decimal, decimal};
 ghost use Rattle.ax_machine.specs.Entries.{Out as OutEntry, Mark as MarkEntry, Watermark, entry_text};
-ghost use Rattle.ax_input.specs.Spellings.{behind_spaces};
 ghost use Rattle.ax_input.specs.Events.{event_text};
-ghost use Rattle.ax_input.specs.OutLines.{spelled, Out, Mark};
+ghost use Rattle.ax_machine.specs.OutLines.{spelled, Out, Mark, behind_spaces};
 ghost use Rattle.ax_input.specs.Seen.{seen_event, seen_snap, seen_line};
 
 use crate::draft::Draft;

@@ -66,10 +66,10 @@ pub record Lawful (serial : Bool) (written plain : List Entry) : Type 0 where
   pub has_all : HasAll (cuts written) (cuts plain)
   pub has_no_more : HasNoMore serial (line_count written) (cuts written) (cuts plain)
 
--- what a program may have written for all of these events
-abbrev pub LawfulFor : Bool → Program → List Event → List Entry → Type 0
-LawfulFor serial p events written = Lawful serial written (sync p events).entries
+-- what a program may have written for all of these events, where there are m key groups
+abbrev pub LawfulFor : ℕ → Bool → Program → List Event → List Entry → Type 0
+LawfulFor m serial p events written = Lawful serial written (sync m p events).entries
 
 -- what it may have written so far
-abbrev pub LawfulSoFarFor : Bool → Program → List Event → List Entry → Type 0
-LawfulSoFarFor serial p events written = LawfulSoFar serial written (sync p events).entries
+abbrev pub LawfulSoFarFor : ℕ → Bool → Program → List Event → List Entry → Type 0
+LawfulSoFarFor m serial p events written = LawfulSoFar serial written (sync m p events).entries

@@ -1,5 +1,9 @@
 pub mod Entries
+pub mod OutLines
+pub mod Blocks
 pub mod Events
+pub mod Firings
 pub mod Sync
+pub mod KeySync
 pub mod Lawful
 pub mod Examples

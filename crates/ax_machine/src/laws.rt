@@ -17,5 +17,5 @@ pub fn front_is_lawful_so_far()
 
 /// A worked example: the counting program, over rows of two keys by turns.
 pub fn counts_by_key()
-    ensures { (sync counting clicks).entries ≡ line (codes "a") (pos 5) ∷ line (codes "b") (pos 1) ∷ line (codes "a") (pos 12) ∷ [] }
+    ensures { (sync 128 counting clicks).entries ≡ line (codes "a") (pos 5) ∷ line (codes "b") (pos 1) ∷ line (codes "a") (pos 12) ∷ [] }
 {}

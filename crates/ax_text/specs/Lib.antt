@@ -1,6 +1,8 @@
 pub mod Functions
 pub mod Exprs
 pub mod Cells
+pub mod Times
 pub mod Texts
-pub mod Run
 pub mod Programs
+pub mod KeyStates
+pub mod Run

@@ -21,6 +21,11 @@ pub record Program : Type 0 where
   -- what `on timer` says, where there is one
   pub timer : Option Text
 
+-- what `on timer` says; where there is none, a firing does nothing
+abbrev pub text_or_stop : Option Text → Text
+text_or_stop None = Stop
+text_or_stop (Some text) = text
+
 abbrev pub kinds_of : List State → List Kind
 kinds_of states = map (λ s. s.kind) states
 

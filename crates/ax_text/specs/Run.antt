@@ -4,15 +4,20 @@ use Rattle.ax_text.specs.declared.vocabulary.Request.{Request}
 use Rattle.ax_text.specs.declared.vocabulary.Request.TheVariants as request
 use Rattle.ax_text.specs.declared.vocabulary.Answer.{Answer}
 use Rattle.ax_text.specs.declared.vocabulary.Answer.TheVariants as answer
+use Rattle.ax_text.specs.declared.vocabulary.TimerOp.{TimerOp}
+use Rattle.ax_text.specs.declared.vocabulary.TimerOp.TheVariants as timer
 use Rattle.ax_text.specs.Functions.{upd}
 use Rattle.ax_text.specs.Exprs.{Expr, Facts, Names, value}
 use Rattle.ax_text.specs.Cells.{Cells, answer_of, cells_after}
-use Rattle.ax_text.specs.Texts.{Quiet, Emit, Asking, Get, Put, Text, Stop, Act, Ask}
+use Rattle.ax_text.specs.KeyStates.{KeyState}
+use Rattle.ax_text.specs.Times.{insert_time, remove_time}
+use Rattle.ax_text.specs.Texts.{Quiet, Emit, Timer, Untimer, Asking, Get, Put, Text, Stop, Act, Ask}
 
--- what a handler has worked out so far: its local names, and the output lines that it wrote
+-- what a handler has worked out so far: its local names, the output lines that it wrote, and what it did to its key's timers
 pub record Talk : Type 0 where
   pub names : Names
   pub lines : List (List ℤ)
+  pub ops : List TimerOp
 
 -- with the states of its key, and how many requests were served
 pub record World : Type 0 where
@@ -21,7 +26,9 @@ pub record World : Type 0 where
   pub served : ℕ
 
 abbrev pub act : Facts → Quiet → Talk → Talk
-act f (Emit values) t = record { names = t.names; lines = t.lines ++ map (value f t.names) values ∷ [] }
+act f (Emit values) t = record { names = t.names; lines = t.lines ++ map (value f t.names) values ∷ []; ops = t.ops }
+act f (Timer time) t = record { names = t.names; lines = t.lines; ops = t.ops ++ timer.Set (value f t.names time) ∷ [] }
+act f (Untimer time) t = record { names = t.names; lines = t.lines; ops = t.ops ++ timer.Unset (value f t.names time) ∷ [] }
 
 -- what is asked; expressions are worked out when the statement begins
 abbrev pub request_of : Facts → Asking → Names → Request
@@ -49,7 +56,7 @@ take_in Ignore a names = names
 -- a request is served at once, and its answer taken in
 abbrev pub serve : Request → After → World → World
 serve r after w = record {
-  talk = record { names = take_in after (answer_of r w.cells) w.talk.names; lines = w.talk.lines };
+  talk = record { names = take_in after (answer_of r w.cells) w.talk.names; lines = w.talk.lines; ops = w.talk.ops };
   cells = cells_after r w.cells;
   served = w.served + 1;
 }
@@ -67,4 +74,17 @@ run f (Ask a t) w = run f t (ask_in f a w)
 
 -- a handler begins: its local names are 0
 abbrev pub begun : Cells → World
-begun cells = record { talk = record { names = λ i. pos 0; lines = [] }; cells = cells; served = 0 }
+begun cells = record { talk = record { names = λ i. pos 0; lines = []; ops = [] }; cells = cells; served = 0 }
+
+-- the times of a key behind what was done to its timers, in order
+abbrev pub time_after : TimerOp → List ℤ → List ℤ
+time_after (timer.Set time) times = insert_time time times
+time_after (timer.Unset time) times = remove_time time times
+
+abbrev pub times_after : List TimerOp → List ℤ → List ℤ
+times_after [] times = times
+times_after (o ∷ os) times = times_after os (time_after o times)
+
+-- what a key has behind a run that began with this
+abbrev pub state_after : KeyState → World → KeyState
+state_after s w = record { cells = w.cells; times = times_after w.talk.ops s.times }

@@ -5,6 +5,9 @@ use Rattle.ax_text.specs.Exprs.{Expr}
 -- a statement that asks nothing of the state
 pub data Quiet : Type 0 where
   Emit : (values : List Expr) → Quiet
+  -- a timer of the key is set, or taken off
+  Timer : (time : Expr) → Quiet
+  Untimer : (time : Expr) → Quiet
 
 -- a statement that asks the state once
 pub data Asking : Type 0 where

@@ -5,4 +5,4 @@
 
 pub mod vocabulary;
 
-pub use vocabulary::{Answer, Atom, Kind, Op, Request};
+pub use vocabulary::{Answer, Atom, Kind, Op, Request, TimerOp};

@@ -75,3 +75,12 @@ pub enum Answer {
     Found { number: i64 },
     Missing,
 }
+
+/// What a handler does to the timers of its key.
+#[derive(Clone, Copy, Debug, PartialEq, Eq)]
+pub enum TimerOp {
+    /// A timer is set at this time. One that is set stays as it is.
+    Set { time: i64 },
+    /// The timer at this time is taken off, where there is one.
+    Unset { time: i64 },
+}

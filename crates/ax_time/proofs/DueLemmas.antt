@@ -20,8 +20,9 @@ use Rattle.std.specs.BTreeSet.{BTreeSet, contains, IsLowerBound}
 use Rattle.std.specs.Map.{lookup}
 use Rattle.ax_time.specs.declared.timer.Timer.{Timer}
 use Rattle.ax_time.specs.Sets.{Sets, members, members_or, has}
-use Rattle.ax_time.specs.Times.{HasDue}
-use Rattle.ax_time.specs.Timers.{key_cmp, times_of, due_cmp, HasNone, IsFirst, IsTimer, IsDueBehind}
+use Rattle.ax_text.specs.Times.{HasDue}
+use Rattle.ax_keys.specs.Keys.{key_cmp}
+use Rattle.ax_time.specs.Timers.{times_of, due_cmp, HasNone, IsFirst, IsTimer, IsDueBehind}
 use Rattle.ax_time.specs.Kept.{listed, Agree, IsKeptAt, IsLater, any_has, up_to}
 use Rattle.ax_time.proofs.KeptLemmas.{times_seen}
 

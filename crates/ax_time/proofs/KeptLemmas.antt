@@ -20,8 +20,9 @@ use Rattle.std.specs.Map.{lookup, keys_of}
 use Rattle.std.specs.Set.{remove_key}
 use Rattle.ax_time.specs.declared.timer.Timer.{Timer}
 use Rattle.ax_time.specs.Sets.{Sets, members, members_or, PutsMembers, has, IsFilled, AreSets}
-use Rattle.ax_time.specs.Times.{insert_time, remove_time, least_time, later_times}
-use Rattle.ax_time.specs.Timers.{key_cmp, times_of, PutsTimes, listed_cmp}
+use Rattle.ax_text.specs.Times.{insert_time, remove_time, least_time, later_times}
+use Rattle.ax_keys.specs.Keys.{key_cmp}
+use Rattle.ax_time.specs.Timers.{times_of, PutsTimes, listed_cmp}
 use Rattle.ax_time.specs.Kept.{timers_at, listed, Agree}
 use Rattle.ax_time.proofs.SetLemmas.{any_inserted, any_removed, removed_filter, inserted_again, members_rise, has_after}
 

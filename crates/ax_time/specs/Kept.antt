@@ -10,7 +10,8 @@ use Rattle.std.specs.BTreeSet.{BTreeSet}
 use Rattle.ax_time.specs.declared.timer.Timer.{Timer}
 use Rattle.ax_time.specs.declared.timers.Timers.TheInside.{Inside}
 use Rattle.ax_time.specs.Sets.{Sets, AreSets, has}
-use Rattle.ax_time.specs.Timers.{key_cmp, timer}
+use Rattle.ax_keys.specs.Keys.{key_cmp}
+use Rattle.ax_time.specs.Timers.{timer}
 
 -- the timers of one key, and of all
 abbrev pub timers_at : List ℕ → List ℤ → List Timer

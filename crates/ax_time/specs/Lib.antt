@@ -1,4 +1,3 @@
 pub mod Sets
-pub mod Times
 pub mod Timers
 pub mod Kept

@@ -7,7 +7,8 @@ ghost use Rattle.std.specs.BTreeMap.{is_at};
 ghost use Rattle.std.specs.BTreeMap.Range.{IsLeBy};
 ghost use Rattle.std.specs.BTreeSet.{contains};
 ghost use Rattle.ax_time.specs.Sets.{AreSets, has};
-ghost use Rattle.ax_time.specs.Timers.{HasNone, IsDue, IsDueBehind, IsFirst, key_cmp, timer};
+ghost use Rattle.ax_keys.specs.Keys.{key_cmp};
+ghost use Rattle.ax_time.specs.Timers.{HasNone, IsDue, IsDueBehind, IsFirst, timer};
 ghost use Rattle.ax_time.specs.Kept.{IsKeptAt, IsLater, any_has, up_to};
 ghost use Rattle.ax_time.specs.declared.timer.Timer.{Timer};
 

@@ -4,8 +4,9 @@ ghost use Rattle.std.specs.Int.{w64};
 ghost use Rattle.std.specs.List.{Contains};
 ghost use Rattle.std.specs.List.Sorted.{IsStrictlySortedBy};
 ghost use Rattle.std.specs.Ordering.{int_cmp};
-ghost use Rattle.ax_time.specs.Times.{insert_time, remove_time, least_time, later_times, HasDue};
-ghost use Rattle.ax_time.specs.Timers.{HasNone, IsDue, IsDueBehind, IsFirst, IsTimer, PutsTimes, key_cmp, listed_cmp, timer, times_of};
+ghost use Rattle.ax_text.specs.Times.{insert_time, remove_time, least_time, later_times, HasDue};
+ghost use Rattle.ax_keys.specs.Keys.{key_cmp};
+ghost use Rattle.ax_time.specs.Timers.{HasNone, IsDue, IsDueBehind, IsFirst, IsTimer, PutsTimes, listed_cmp, timer, times_of};
 ghost use Rattle.ax_time.specs.Kept.{listed, timers_at};
 
 use crate::due::{due_set, first_due, list_keys, next_due};

@@ -1,6 +1,6 @@
 use Rattle.std.proofs.Common.{◌≡◌, ◌++◌, drop, map}
 use Rattle.std.specs.Fmt.{signed_decimal}
-use Rattle.ax_input.specs.Spellings.{behind_spaces}
+use Rattle.ax_machine.specs.OutLines.{behind_spaces}
 use Rattle.ax_input.proofs.write.put_numbers.Given as goal
 
 abbrev pub invariant-loop-number : goal.invariant-loop-number

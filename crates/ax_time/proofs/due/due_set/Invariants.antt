@@ -1,6 +1,6 @@
 use Rattle.std.proofs.Common.{◌≡◌, ◌||◌, List, ℕ}
 use Rattle.std.specs.BTreeSet.{contains}
-use Rattle.ax_time.specs.Timers.{key_cmp}
+use Rattle.ax_keys.specs.Keys.{key_cmp}
 use Rattle.ax_time.specs.Kept.{any_has, up_to}
 use Rattle.ax_time.proofs.due.due_set.Given as goal
 

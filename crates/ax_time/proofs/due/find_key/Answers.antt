@@ -3,7 +3,7 @@ use Rattle.std.specs.BTreeMap.{is_at}
 use Rattle.std.specs.BTreeSet.{contains}
 use Rattle.std.specs.Cmp.{eq_by_cmp_equiv}
 use Rattle.std.specs.Cmp.Lexicographic.{nat_list_cmp_total}
-use Rattle.ax_time.specs.Timers.{key_cmp}
+use Rattle.ax_keys.specs.Keys.{key_cmp}
 use Rattle.ax_time.proofs.DueLemmas.{found_there, found_new}
 use Rattle.ax_time.proofs.due.find_key.Goals as goal
 use Rattle.ax_time.proofs.due.find_key.Goals.{in-Ok, in-Err}

@@ -2,7 +2,7 @@ use Rattle.std.proofs.Common.{◌≡◌, ◌||◌, List, ℕ}
 use Rattle.std.specs.List.{list_any}
 use Rattle.std.specs.BTreeMap.{is_at}
 use Rattle.std.specs.BTreeSet.{contains}
-use Rattle.ax_time.specs.Timers.{key_cmp}
+use Rattle.ax_keys.specs.Keys.{key_cmp}
 use Rattle.ax_time.proofs.due.find_keys.Given as goal
 
 abbrev pub invariant-loop-key : goal.invariant-loop-key

@@ -1,7 +1,7 @@
 use Rattle.std.proofs.Common.{◌≡◌, List, ℕ, ℤ, subst}
 use Rattle.std.proofs.Math.Facts.{to_z-of_z}
 use Rattle.std.specs.BTreeSet.{contains}
-use Rattle.ax_time.specs.Timers.{key_cmp}
+use Rattle.ax_keys.specs.Keys.{key_cmp}
 use Rattle.ax_time.specs.Kept.{any_has, up_to}
 use Rattle.ax_time.proofs.KeptLemmas.{if_ok}
 use Rattle.ax_time.proofs.DueLemmas.{due_seen}

@@ -1,6 +1,6 @@
 use Rattle.std.proofs.Common.{◌∙◌, ap}
 use Rattle.ax_time.specs.Sets.{members_or}
-use Rattle.ax_time.specs.Times.{least_time}
+use Rattle.ax_text.specs.Times.{least_time}
 use Rattle.ax_time.proofs.KeptLemmas.{times_seen, rising_seen}
 use Rattle.ax_time.proofs.timers.Timers.least_at.Goals as goal
 

@@ -1,6 +1,6 @@
 use Rattle.std.proofs.Common.{OnOk, ℤ, subst}
 use Rattle.std.proofs.Math.Facts.{to_z-of_z}
-use Rattle.ax_time.specs.Times.{insert_time}
+use Rattle.ax_text.specs.Times.{insert_time}
 use Rattle.ax_time.specs.Timers.{PutsTimes, times_of}
 use Rattle.ax_time.proofs.timers.Timers.set.Goals as goal
 

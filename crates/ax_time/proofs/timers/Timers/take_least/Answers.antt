@@ -1,6 +1,6 @@
 use Rattle.std.proofs.Common.{◌∙◌, List, ℤ, sym, subst}
 use Rattle.std.proofs.Math.Facts.{to_z-of_z}
-use Rattle.ax_time.specs.Times.{remove_time}
+use Rattle.ax_text.specs.Times.{remove_time}
 use Rattle.ax_time.specs.Timers.{PutsTimes, times_of}
 use Rattle.ax_time.proofs.KeptLemmas.{later_left}
 use Rattle.ax_time.proofs.timers.Timers.take_least.Goals as goal
