@@ -1,2 +1,3 @@
+pub mod FiringLemmas
 pub mod FrontLemmas
 pub mod LawfulLemmas
