@@ -1,3 +1,4 @@
 pub mod FiringLemmas
 pub mod FrontLemmas
 pub mod LawfulLemmas
+pub mod StepLemmas

@@ -111,3 +111,7 @@ sync m p es = plain_steps m p es (plain_start p)
 -- the same thread, of which what was written before is left aside
 abbrev pub silent : Plain → Plain
 silent s = record { wm = s.wm; keys = s.keys; map = s.map; entries = [] }
+
+-- the same thread, before which this was written
+abbrev pub behind : List Entry → Plain → Plain
+behind es s = record { wm = s.wm; keys = s.keys; map = s.map; entries = es ++ s.entries }

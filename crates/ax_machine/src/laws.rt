@@ -1,7 +1,9 @@
 //! Laws over the definitions.
-ghost use Rattle.std.specs.Prelude.{◌≡◌, List, Bool, [], ◌∷◌, ◌++◌, codes, pos};
+ghost use Rattle.std.specs.Prelude.{◌≡◌, ℕ, List, Bool, [], ◌∷◌, ◌++◌, codes, pos};
+ghost use Rattle.ax_text.specs.Programs.{Program};
 ghost use Rattle.ax_machine.specs.Entries.{Entry};
-ghost use Rattle.ax_machine.specs.Sync.{sync};
+ghost use Rattle.ax_machine.specs.Events.{Event};
+ghost use Rattle.ax_machine.specs.Sync.{Plain, plain_steps, sync, silent, behind};
 ghost use Rattle.ax_machine.specs.Lawful.{Lawful, LawfulSoFar};
 ghost use Rattle.ax_machine.specs.Examples.{counting, clicks, line};
 
@@ -13,6 +15,11 @@ pub fn lawful_itself()
 /// A list of which only the front was written is lawful so far.
 pub fn front_is_lawful_so_far()
     ensures { (serial : Bool) (front rest : List Entry) → LawfulSoFar serial front (front ++ rest) }
+{}
+
+/// Steps of the plain thread do the same whatever was written before, and write behind it.
+pub fn steps_write_behind()
+    ensures { (m : ℕ) (p : Program) (events : List Event) (s : Plain) → plain_steps m p events s ≡ behind s.entries (plain_steps m p events (silent s)) }
 {}
 
 /// A worked example: the counting program, over rows of two keys by turns.

@@ -1,0 +1,66 @@
+-- A step does the same whatever was written before, and writes behind it.
+use Rattle.std.proofs.Common.{◌≡◌, ℕ, zero, suc, ◌*◌, ℤ, int_lt, List, [], ◌∷◌, ◌++◌, length, Bool, true, false, cond, Option, Some, None, refl, sym, ap, ◌∙◌, append_assoc, append-nil}
+use Rattle.ax_text.specs.Run.{World}
+use Rattle.ax_text.specs.KeyStates.{KeyState}
+use Rattle.ax_text.specs.Programs.{Program}
+use Rattle.ax_machine.specs.Entries.{Key, Marker, Watermark, Entry, says}
+use Rattle.ax_machine.specs.Entries as entry
+use Rattle.ax_machine.specs.Events.{Event, Row, Mark, Barrier}
+use Rattle.ax_machine.specs.Firings.{Due, most_firings, next_due, one_less}
+use Rattle.ax_machine.specs.Sync.{Plain, row_run, firing_run, without_least, does, knows, fire, fire_next, fire_all, all_fired, at_watermark, writes, block_of, plain_step, plain_steps, silent, behind}
+
+with_entries : {s t : Plain} → s.wm ≡ t.wm → s.keys ≡ t.keys → s.map ≡ t.map → s.entries ≡ t.entries → s ≡ t
+with_entries p q r e = λ i. record { wm = p i; keys = q i; map = r i; entries = e i }
+
+does_behind : (es : List Entry) (k : Key) (state : KeyState) (w : World) (s : Plain) → does k state w (behind es s) ≡ behind es (does k state w s)
+does_behind es k state w s = with_entries refl refl refl (append_assoc es s.entries (says k w.talk.lines))
+
+writes_behind : (es : List Entry) (m : Marker) (s : Plain) → writes m (behind es s) ≡ behind es (writes m s)
+writes_behind es m s = with_entries refl refl refl (append_assoc es s.entries (entry.Mark m ∷ []))
+
+fire_behind : (es : List Entry) (p : Program) (d : Due) (s : Plain) → fire p d (behind es s) ≡ behind es (fire p d s)
+fire_behind es p d s = does_behind es d.key (without_least (s.map d.key)) (firing_run p s.wm (s.map d.key) d.time) s
+
+fire_next_behind : (es : List Entry) (p : Program) (go : (Key → ℕ) → Plain → Plain) → ((more : Key → ℕ) (s : Plain) → go more (behind es s) ≡ behind es (go more s))
+    → (o : Option Due) (more : Key → ℕ) (s : Plain) → fire_next p go o more (behind es s) ≡ behind es (fire_next p go o more s)
+fire_next_behind es p go goes None more s = refl
+fire_next_behind es p go goes (Some d) more s = ap (go (one_less more d.key)) (fire_behind es p d s) ∙ goes (one_less more d.key) (fire p d s)
+
+pub fire_all_behind : (es : List Entry) (p : Program) (fuel : ℕ) (more : Key → ℕ) (s : Plain) → fire_all p fuel more (behind es s) ≡ behind es (fire_all p fuel more s)
+fire_all_behind es p zero more s = refl
+fire_all_behind es p (suc n) more s = fire_next_behind es p (fire_all p n) (fire_all_behind es p n) (next_due s.wm s.keys more s.map) more s
+
+watermark_if : (es : List Entry) (b : Bool) (x y s : Plain) → x ≡ behind es y → cond b x (behind es s) ≡ behind es (cond b y s)
+watermark_if es true x y s e = e
+watermark_if es false x y s e = refl
+
+watermark_behind : (es : List Entry) (p : Program) (w : ℤ) (s : Plain)
+    → writes (Watermark w) (all_fired p (at_watermark w (behind es s))) ≡ behind es (writes (Watermark w) (all_fired p (at_watermark w s)))
+watermark_behind es p w s =
+    ap (writes (Watermark w)) (fire_all_behind es p (most_firings * length s.keys) (λ k. most_firings) (at_watermark w s))
+    ∙ writes_behind es (Watermark w) (all_fired p (at_watermark w s))
+
+-- a step behind more entries
+pub step_further : (m : ℕ) (p : Program) (e : Event) (es : List Entry) (s : Plain) → plain_step m p e (behind es s) ≡ behind es (plain_step m p e s)
+step_further m p (Row k time values) es s = does_behind es k (s.map k) (row_run p s.wm (s.map k) time values) (knows k s)
+step_further m p (Mark w) es s = watermark_if es (int_lt s.wm w)
+    (writes (Watermark w) (all_fired p (at_watermark w (behind es s)))) (writes (Watermark w) (all_fired p (at_watermark w s))) s (watermark_behind es p w s)
+step_further m p (Barrier id) es s = writes_behind es (block_of m p id s) s
+
+pub steps_further : (m : ℕ) (p : Program) (events : List Event) (es : List Entry) (s : Plain) → plain_steps m p events (behind es s) ≡ behind es (plain_steps m p events s)
+steps_further m p [] es s = refl
+steps_further m p (e ∷ events) es s = ap (plain_steps m p events) (step_further m p e es s) ∙ steps_further m p events es (plain_step m p e s)
+
+pub silent_behind : (s : Plain) → s ≡ behind s.entries (silent s)
+silent_behind s = with_entries refl refl refl (sym (append-nil s.entries))
+
+pub step_behind : (m : ℕ) (p : Program) (e : Event) (s : Plain) → plain_step m p e s ≡ behind s.entries (plain_step m p e (silent s))
+step_behind m p e s = ap (plain_step m p e) (silent_behind s) ∙ step_further m p e s.entries (silent s)
+
+pub steps_behind : (m : ℕ) (p : Program) (events : List Event) (s : Plain) → plain_steps m p events s ≡ behind s.entries (plain_steps m p events (silent s))
+steps_behind m p events s = ap (plain_steps m p events) (silent_behind s) ∙ steps_further m p events s.entries (silent s)
+
+-- events, and then further ones
+pub steps_append : (m : ℕ) (p : Program) (xs ys : List Event) (s : Plain) → plain_steps m p (xs ++ ys) s ≡ plain_steps m p ys (plain_steps m p xs s)
+steps_append m p [] ys s = refl
+steps_append m p (e ∷ xs) ys s = steps_append m p xs ys (plain_step m p e s)
