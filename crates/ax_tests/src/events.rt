@@ -1,128 +1,90 @@
-//! Events behind a program that counts: rows and the faults of their lines.
-use crate::expect::{BYTES, COUNTER, expect, expect_events, input};
+//! Events behind a program that counts: rows, and the faults of lines.
+use crate::expect::{BYTES, COUNTER, expect, expect_events, expect_table, input};
 use ax_cli::Status;
 use std::alloc::{AllocError, AllocGlobal, Global};
 use std::process::Abort;
 use std::test::Fail;
 
+// A line of these tables has events, what is written, and the fault of the input (`i`), with line and kind.
+
+const ROWS: &str = "\
+||
+r a 1 5;r a 4 7;|o a 5;o a 12;|
+r a 1 5;r b 2 1;r a 3 7;|o a 5;o b 1;o a 12;|
+r a 1 5;r a 2 7|o a 5;o a 12;|
+r a 1 9223372036854775807;r a 2 1;|o a 9223372036854775807;o a -9223372036854775808;|
+r a 1 -9223372036854775808;r a 2 -1;|o a -9223372036854775808;o a 9223372036854775807;|
+r a 1 5;r a 1 -|o a 5;|i 10 3
+r a 1 5;x;r a 2 7;|o a 5;|i 10 1
+# note;; \t\r;\tr\ta\t1\t5\r;#;  r  a  2  7 \r|o a 5;o a 12;|
+# note;; \t;x;||i 12 1
+r a 1\r5;|o a 5;|";
+
+const NUMBERS: &str = "\
+r a 1 -0;|o a 0;|
+r a -0 5;|o a 5;|
+r a 0001 -0005;|o a -5;|
+r a 1 00000000000000000000000000000000000000000000000000000000000007;|o a 7;|
+r a 1 0000000000000000000009223372036854775807;|o a 9223372036854775807;|
+r a 1 -9223372036854775808;|o a -9223372036854775808;|
+r a 9223372036854775807 1;|o a 1;|
+r a -9223372036854775808 1;|o a 1;|
+r a 1 9223372036854775808;||i 9 3
+r a 1 -9223372036854775809;||i 9 3
+r a 9223372036854775808 1;||i 9 3
+r a -9223372036854775809 1;||i 9 3
+r a 1 18446744073709551616;||i 9 3
+r a 1 18446744073709551621;||i 9 3
+r a 1 340282366920938463463374607431768211461;||i 9 3
+r a 1 +5;||i 9 3
+r a 1 --5;||i 9 3
+r a 1 5-;||i 9 3
+r a 1 1.0;||i 9 3
+r a 1 0x5;||i 9 3
+r a 1 5_0;||i 9 3";
+
+const FAULTS: &str = "\
+R a 1 5;||i 9 1
+rr a 1 5;||i 9 1
+o a 5;||i 9 1
+end;||i 9 1
+%%;||i 9 1
+r a 1 5;%%;r a 2 7;|o a 5;|i 10 1
+w;||i 9 4
+w 5 6;||i 9 4
+w x;||i 9 3
+w x y;||i 9 4
+b;||i 9 4
+b 0 0;||i 9 4
+b x;||i 9 3
+b 0;||i 9 3
+b -1;||i 9 3
+r a 1 5;w 5;w;|o a 5;w 5;|i 11 4
+r;||i 9 4
+r a;||i 9 4
+r a 1;||i 9 4
+r a 1 5 6;||i 9 4
+r a 1 5 # note;||i 9 4
+r a 1\x0b5;||i 9 4
+r \x01 x y z;||i 9 4
+r \x7f x y;||i 9 2
+r é x 5;||i 9 2
+r a x y;||i 9 3
+r ! 1 5;r ~ 1 5;r # 1 5;r %% 1 5;r -1 1 5;|o ! 5;o ~ 5;o # 5;o %% 5;o -1 5;|";
+
 #[test]
 fn rows_in_input_order(rt: HostRuntime) -> Result<(), Fail> {
-    let cases = [
-        ("", "", Status::Ok),
-        ("r a 1 5\nr a 4 7\n", "o a 5\no a 12\n", Status::Ok),
-        (
-            "r a 1 5\nr b 2 1\nr a 3 7\n",
-            "o a 5\no b 1\no a 12\n",
-            Status::Ok,
-        ),
-        ("r a 1 5\nr a 2 7", "o a 5\no a 12\n", Status::Ok),
-        (
-            "r a 1 9223372036854775807\nr a 2 1\n",
-            "o a 9223372036854775807\no a -9223372036854775808\n",
-            Status::Ok,
-        ),
-        (
-            "r a 1 -9223372036854775808\nr a 2 -1\n",
-            "o a -9223372036854775808\no a 9223372036854775807\n",
-            Status::Ok,
-        ),
-        ("r a 1 5\nr a 1 -", "o a 5\n", input(10, 3)),
-        ("r a 1 5\nx\nr a 2 7\n", "o a 5\n", input(10, 1)),
-        (
-            "# note\n\n \t\r\n\tr\ta\t1\t5\r\n#\n  r  a  2  7 \r",
-            "o a 5\no a 12\n",
-            Status::Ok,
-        ),
-        ("# note\n\n \t\nx\n", "", input(12, 1)),
-        ("r a 1\r5\n", "o a 5\n", Status::Ok),
-    ];
-    for (events, out, status) in cases {
-        expect_events(&rt, events, out, status)?;
-    }
-    Ok(())
+    expect_table(&rt, COUNTER.as_bytes(), ROWS, b"")
 }
 
 #[test]
 fn numbers_to_the_ends_of_their_range(rt: HostRuntime) -> Result<(), Fail> {
-    let cases = [
-        ("r a 1 -0\n", "o a 0\n", Status::Ok),
-        ("r a -0 5\n", "o a 5\n", Status::Ok),
-        ("r a 0001 -0005\n", "o a -5\n", Status::Ok),
-        (
-            "r a 1 00000000000000000000000000000000000000000000000000000000000007\n",
-            "o a 7\n",
-            Status::Ok,
-        ),
-        (
-            "r a 1 0000000000000000000009223372036854775807\n",
-            "o a 9223372036854775807\n",
-            Status::Ok,
-        ),
-        (
-            "r a 1 -9223372036854775808\n",
-            "o a -9223372036854775808\n",
-            Status::Ok,
-        ),
-        ("r a 9223372036854775807 1\n", "o a 1\n", Status::Ok),
-        ("r a -9223372036854775808 1\n", "o a 1\n", Status::Ok),
-        ("r a 1 9223372036854775808\n", "", input(9, 3)),
-        ("r a 1 -9223372036854775809\n", "", input(9, 3)),
-        ("r a 9223372036854775808 1\n", "", input(9, 3)),
-        ("r a -9223372036854775809 1\n", "", input(9, 3)),
-        ("r a 1 18446744073709551616\n", "", input(9, 3)),
-        ("r a 1 18446744073709551621\n", "", input(9, 3)),
-        (
-            "r a 1 340282366920938463463374607431768211461\n",
-            "",
-            input(9, 3),
-        ),
-        ("r a 1 +5\n", "", input(9, 3)),
-        ("r a 1 --5\n", "", input(9, 3)),
-        ("r a 1 5-\n", "", input(9, 3)),
-        ("r a 1 1.0\n", "", input(9, 3)),
-        ("r a 1 0x5\n", "", input(9, 3)),
-        ("r a 1 5_0\n", "", input(9, 3)),
-    ];
-    for (events, out, status) in cases {
-        expect_events(&rt, events, out, status)?;
-    }
-    Ok(())
+    expect_table(&rt, COUNTER.as_bytes(), NUMBERS, b"")
 }
 
 #[test]
 fn faults_of_one_line_in_their_order(rt: HostRuntime) -> Result<(), Fail> {
-    let cases = [
-        ("R a 1 5\n", "", input(9, 1)),
-        ("rr a 1 5\n", "", input(9, 1)),
-        ("o a 5\n", "", input(9, 1)),
-        ("end\n", "", input(9, 1)),
-        ("%%\n", "", input(9, 1)),
-        ("r a 1 5\n%%\nr a 2 7\n", "o a 5\n", input(10, 1)),
-        ("w 5\n", "", input(9, 8)),
-        ("w\n", "", input(9, 8)),
-        ("b 1\n", "", input(9, 8)),
-        ("b 0 0\n", "", input(9, 8)),
-        ("r a 1 5\nw 5\n", "o a 5\n", input(10, 8)),
-        ("r\n", "", input(9, 4)),
-        ("r a\n", "", input(9, 4)),
-        ("r a 1\n", "", input(9, 4)),
-        ("r a 1 5 6\n", "", input(9, 4)),
-        ("r a 1 5 # note\n", "", input(9, 4)),
-        ("r a 1\x0b5\n", "", input(9, 4)),
-        ("r \x01 x y z\n", "", input(9, 4)),
-        ("r \x7f x y\n", "", input(9, 2)),
-        ("r é x 5\n", "", input(9, 2)),
-        ("r a x y\n", "", input(9, 3)),
-        (
-            "r ! 1 5\nr ~ 1 5\nr # 1 5\nr %% 1 5\nr -1 1 5\n",
-            "o ! 5\no ~ 5\no # 5\no %% 5\no -1 5\n",
-            Status::Ok,
-        ),
-    ];
-    for (events, out, status) in cases {
-        expect_events(&rt, events, out, status)?;
-    }
-    Ok(())
+    expect_table(&rt, COUNTER.as_bytes(), FAULTS, b"")
 }
 
 #[test]
@@ -153,7 +115,7 @@ fn fault_as_value(byte: u8) -> Status {
 fn fault_as_first_word(byte: u8) -> Status {
     match byte {
         b'r' | b'#' => Status::Ok,
-        b'w' | b'b' => input(9, 8),
+        b'w' | b'b' => input(9, 4),
         b'\n' => input(10, 1),
         _ => input(9, 1),
     }

@@ -64,6 +64,16 @@ pub fn expect(
     out: &str,
     status: Status,
 ) -> Result<(), Fail> {
+    expect_bytes(rt, pieces, out.as_bytes(), status)
+}
+
+/// The same of the bytes that must be written.
+pub fn expect_bytes(
+    rt: &(impl Abort + AllocGlobal),
+    pieces: &[&[u8]],
+    out: &[u8],
+    status: Status,
+) -> Result<(), Fail> {
     let alloc = rt.alloc();
     let bytes = joined(alloc, pieces)?;
     let shown = end_of(alloc, bytes.as_slice())?;
@@ -72,7 +82,7 @@ pub fn expect(
     let mut err = SureSink::new(alloc);
     let found = run_alone(alloc, &[], &mut source, &mut sink, &mut err);
     assert_eq!(rt; found, status, "at .. {shown}");
-    assert_eq!(rt; sink.bytes(), out.as_bytes(), "at .. {shown}");
+    assert_eq!(rt; sink.bytes(), out, "at .. {shown}");
     let line = line_of(alloc, status)?;
     assert_eq!(rt; err.bytes(), line.as_bytes());
     Ok(())
@@ -87,4 +97,50 @@ pub fn expect_events(
 ) -> Result<(), Fail> {
     let input = with_events(rt.alloc(), COUNTER.as_bytes(), events.as_bytes())?;
     expect(rt, &[input.as_slice()], out, status)
+}
+
+// A text with line feeds in place of `;`.
+fn fed(alloc: Global, text: &str) -> Result<Bytes, NoMemory> {
+    let mut bytes = Bytes::new(alloc);
+    for byte in text.as_bytes() {
+        bytes.push(if *byte == b';' { b'\n' } else { *byte })?;
+    }
+    Ok(bytes)
+}
+
+// The status that a table names: none of it is Ok, and else `p` or `i` with line and kind.
+fn status_of(name: &str) -> Status {
+    let mut words = name.split(' ');
+    let letter = words.next().unwrap_or("");
+    let line = words.next().unwrap_or("").parse::<u64>().unwrap_or(0);
+    let kind = words.next().unwrap_or("").parse::<u8>().unwrap_or(0);
+    match letter {
+        "p" => program(line, kind),
+        "i" => input(line, kind),
+        _ => Status::Ok,
+    }
+}
+
+/// Runs each line of a table, between two pieces. It has a text, what must be written, and the
+/// status, with `|` between them and `;` in place of each line feed.
+pub fn expect_table(
+    rt: &(impl Abort + AllocGlobal),
+    before: &[u8],
+    table: &str,
+    after: &[u8],
+) -> Result<(), Fail> {
+    let alloc = rt.alloc();
+    for case in table.lines() {
+        let mut parts = case.split('|');
+        let text = fed(alloc, parts.next().unwrap_or(""))?;
+        let out = fed(alloc, parts.next().unwrap_or(""))?;
+        let status = status_of(parts.next().unwrap_or(""));
+        expect_bytes(
+            rt,
+            &[before, text.as_slice(), after],
+            out.as_slice(),
+            status,
+        )?;
+    }
+    Ok(())
 }

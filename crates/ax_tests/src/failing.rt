@@ -6,13 +6,13 @@ use std::alloc::{AllocGlobal, Global};
 use std::process::Abort;
 use std::test::Fail;
 
-// Three rows, the last without a line feed, and what they write.
-const ROWS: &str = "r a 1 5\nr b 2 1\nr a 3 7";
+// Rows, a watermark and a barrier, the last without a line feed, and what they write.
+const EVENTS: &str = "r a 1 5\nr b 2 1\nw 3\nr a 3 7\nb 1";
 
-const LINES: &str = "o a 5\no b 1\no a 12\n";
+const LINES: &str = "o a 5\no b 1\nw 3\no a 12\ns 1 3\nc b c 1\nc a c 12\ne 1 2\n";
 
 fn input(alloc: Global) -> Result<Bytes, Fail> {
-    Ok(joined(alloc, &[COUNTER.as_bytes(), ROWS.as_bytes()])?)
+    Ok(joined(alloc, &[COUNTER.as_bytes(), EVENTS.as_bytes()])?)
 }
 
 // How many line feeds stand among the first bytes.
@@ -21,18 +21,19 @@ fn feeds(bytes: &[u8], first: usize) -> usize {
     bytes[..most].iter().filter(|b| **b == b'\n').count()
 }
 
-// The first bytes of what the rows write.
+// The first bytes of what the events write.
 fn first(length: usize) -> &'static [u8] {
     let all = LINES.as_bytes();
     &all[..length.min(all.len())]
 }
 
-// What the rows among the first lines write. Eight lines stand before them.
+// What the events among the first lines write. Eight lines stand before them.
 fn written(lines: usize) -> &'static [u8] {
     match lines {
         9 => first(6),
         10 => first(12),
-        11 => first(19),
+        11 => first(16),
+        12 => first(23),
         _ => b"",
     }
 }
@@ -83,9 +84,9 @@ fn each_read_fails(rt: &(impl Abort + AllocGlobal), most: usize) -> Result<(), F
     let mut taken = 0;
     for call in 1..200 {
         if taken >= bytes.len() {
-            read_fails(rt, most, call, Status::Read, first(12))?;
-            read_fails(rt, most, call + 1, Status::Read, first(19))?;
-            read_fails(rt, most, call + 2, Status::Ok, first(19))?;
+            read_fails(rt, most, call, Status::Read, first(23))?;
+            read_fails(rt, most, call + 1, Status::Read, first(52))?;
+            read_fails(rt, most, call + 2, Status::Ok, first(52))?;
             return Ok(());
         }
         let out = written(feeds(bytes.as_slice(), taken));
@@ -107,10 +108,10 @@ fn each_read_of_seven_bytes_fails(rt: HostRuntime) -> Result<(), Fail> {
 
 #[test]
 fn each_write_of_a_byte_fails(rt: HostRuntime) -> Result<(), Fail> {
-    for before in 0..19usize {
+    for before in 0..52usize {
         write_fails(&rt, 1, before as i64 + 1, Status::Write, first(before))?;
     }
-    write_fails(&rt, 1, 20, Status::Ok, first(19))
+    write_fails(&rt, 1, 53, Status::Ok, first(52))
 }
 
 #[test]
@@ -118,7 +119,12 @@ fn each_write_of_seven_bytes_fails(rt: HostRuntime) -> Result<(), Fail> {
     write_fails(&rt, 7, 1, Status::Write, first(0))?;
     write_fails(&rt, 7, 2, Status::Write, first(6))?;
     write_fails(&rt, 7, 3, Status::Write, first(12))?;
-    write_fails(&rt, 7, 4, Status::Ok, first(19))
+    write_fails(&rt, 7, 4, Status::Write, first(16))?;
+    // the block
+    write_fails(&rt, 7, 5, Status::Write, first(23))?;
+    write_fails(&rt, 7, 6, Status::Write, first(30))?;
+    write_fails(&rt, 7, 9, Status::Write, first(51))?;
+    write_fails(&rt, 7, 10, Status::Ok, first(52))
 }
 
 // The first read ends behind the second row's line feed, and the second fails.

@@ -16,3 +16,5 @@ mod limits;
 mod outside;
 #[cfg(test)]
 mod programs;
+#[cfg(test)]
+mod timers;
