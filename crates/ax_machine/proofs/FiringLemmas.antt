@@ -206,7 +206,7 @@ pub total_most : (keys : List Key) (n : ℕ) → total keys (λ k. n) ≤ n * le
 total_most [] n = omega arith
 total_most (k ∷ ks) n = omega (arith, total_most ks n)
 
-in_total : (keys : List Key) (more : Key → ℕ) (k : Key) → list_any (bytes_eq k) keys ≡ true → more k ≤ total keys more
+pub in_total : (keys : List Key) (more : Key → ℕ) (k : Key) → list_any (bytes_eq k) keys ≡ true → more k ≤ total keys more
 in_total [] more k e = absurd (true≢false (sym e))
 in_total (j ∷ ks) more k e = ⊎_elim
     (λ x. let same : more k ≡ more j = ap more x in omega arith)
@@ -221,7 +221,7 @@ total_le : (keys : List Key) (more : Key → ℕ) (j : Key) → total keys (one_
 total_le [] more j = omega arith
 total_le (k ∷ ks) more j = omega (arith, less_if (bytes_eq j k) (more k), total_le ks more j)
 
-total_lt : (keys : List Key) (more : Key → ℕ) (j : Key) → list_any (bytes_eq j) keys ≡ true → 0 < more j → total keys (one_less more j) < total keys more
+pub total_lt : (keys : List Key) (more : Key → ℕ) (j : Key) → list_any (bytes_eq j) keys ≡ true → 0 < more j → total keys (one_less more j) < total keys more
 total_lt [] more j e h = absurd (true≢false (sym e))
 total_lt (k ∷ ks) more j e h = ⊎_elim
     (λ x. let here : one_less more j k ≡ more k - 1 = cond-true (bytes_eq j k) (more k - 1) (more k) ((bytes_eq-Decides j k).1 x) in

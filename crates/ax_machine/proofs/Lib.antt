@@ -1,4 +1,5 @@
 pub mod FiringLemmas
 pub mod FrontLemmas
+pub mod KeyLemmas
 pub mod LawfulLemmas
 pub mod StepLemmas

@@ -1,9 +1,10 @@
 //! Laws over the definitions.
 ghost use Rattle.std.specs.Prelude.{◌≡◌, ℕ, List, Bool, [], ◌∷◌, ◌++◌, codes, pos};
 ghost use Rattle.ax_text.specs.Programs.{Program};
-ghost use Rattle.ax_machine.specs.Entries.{Entry};
+ghost use Rattle.ax_machine.specs.Entries.{Key, Entry};
 ghost use Rattle.ax_machine.specs.Events.{Event};
 ghost use Rattle.ax_machine.specs.Sync.{Plain, plain_steps, sync, silent, behind};
+ghost use Rattle.ax_machine.specs.KeySync.{IsProjected};
 ghost use Rattle.ax_machine.specs.Lawful.{Lawful, LawfulSoFar};
 ghost use Rattle.ax_machine.specs.Examples.{counting, clicks, line};
 
@@ -20,6 +21,12 @@ pub fn front_is_lawful_so_far()
 /// Steps of the plain thread do the same whatever was written before, and write behind it.
 pub fn steps_write_behind()
     ensures { (m : ℕ) (p : Program) (events : List Event) (s : Plain) → plain_steps m p events s ≡ behind s.entries (plain_steps m p events (silent s)) }
+{}
+
+/// What the plain thread of all keys has and writes of a key is what the thread of that key alone has and writes:
+/// the order in which keys fire makes no difference to any of them.
+pub fn keys_are_apart()
+    ensures { (m : ℕ) (p : Program) (k : Key) (events : List Event) → IsProjected m p k events }
 {}
 
 /// A worked example: the counting program, over rows of two keys by turns.
