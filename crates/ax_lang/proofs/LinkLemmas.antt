@@ -9,8 +9,8 @@ use Rattle.ax_text.specs.Texts.{Text, Stop}
 use Rattle.ax_lang.specs.declared.step.Stmt.{Stmt}
 use Rattle.ax_lang.specs.declared.step.Step.{Step}
 use Rattle.ax_lang.specs.Rows.{Row, with_row, text_of}
-use Rattle.ax_lang.specs.Steps.{row_in, text_in, texts_from, text_at, stmt_fits, steps_fit}
-use Rattle.ax_lang.proofs.StepLemmas.{text_last, texts_length}
+use Rattle.ax_lang.specs.Steps.{row_in, text_in, texts_from, text_at, GoesOn, stmt_fits, steps_fit}
+use Rattle.ax_lang.proofs.StepLemmas.{text_more, text_last, texts_length}
 
 -- rows before a text
 abbrev pub rows_before : List Row → Text → Text
@@ -49,26 +49,47 @@ all_popped p all rest s e h =
     let a = and_parts (list_all p rest) (list_all p (s ∷ [])) (sym (ap (list_all p) e ∙ list_all-append p rest (s ∷ [])) ∙ h) in
     (a.0, (and_parts (p s) true a.1).0)
 
-pub linked : (all rest : List Stmt) (s : Stmt) (ss now : List Step) (locals : ℕ) (ks : List Kind) → all ≡ rest ++ s ∷ [] → now ≡ ss ++ record { stmt = s; next = length ss } ∷ []
-    → steps_fit locals ks 0 ss ≡ true → list_all (stmt_fits locals ks) all ≡ true
-    → (rows_before (map row_in rest) (text_at now (length now)) ≡ rows_before (map row_in all) (text_at ss (length ss))) × (steps_fit locals ks 0 now ≡ true) × (list_all (stmt_fits locals ks) rest ≡ true)
-linked all rest s ss now locals ks e f fit g =
-    let step : Step = record { stmt = s; next = length ss } in
-    let more : List Step = ss ++ step ∷ [] in
-    let p = all_popped (stmt_fits locals ks) all rest s e g in
-    let long : length more ≡ suc (length ss) = length-append ss (step ∷ []) ∙ omega arith in
-    let text : text_at now (length now) ≡ with_row (row_in s) (text_at ss (length ss)) =
-    ap (λ (zs : List Step). text_at zs (length zs)) f ∙ (ap (text_at more) long ∙ text_pushed ss step) in (
-      ap (rows_before (map row_in rest)) text
-          ∙ sym (ap (λ (zs : List Stmt). rows_before (map row_in zs) (text_at ss (length ss))) e
-          ∙ (ap (λ (rs : List Row). rows_before rs (text_at ss (length ss))) (map-append row_in rest (s ∷ [])) ∙ before_last (map row_in rest) (row_in s) (text_at ss (length ss)))),
-      ap (steps_fit locals ks 0) f ∙ fits_pushed ss step locals 0 ks fit (omega arith) p.1,
-      p.0,
-    )
-
-pub text_none : text_at [] 0 ≡ Stop
+-- the texts so far stay
+text_kept : (ss : List Step) (s : Step) (p : ℕ) → p ≤ length ss → text_at (ss ++ s ∷ []) p ≡ text_at ss p
 unfolding text_at
-text_none = refl
+text_kept ss s p h =
+    let ts = texts_from [] ss in
+    let e : length ts ≡ length ss = texts_length ss [] ∙ omega arith in
+    ap (λ (us : List Text). text_in us p) (texts_last ss [] s) ∙ text_more ts _ p (omega arith)
+
+-- how far the statements of `all` fit that stand in the table
+abbrev pub FitsSoFar : List Stmt → List Stmt → List Step → List Step → Type 0
+FitsSoFar all rest before now = (locals : ℕ) → (ks : List Kind) → steps_fit locals ks 0 before ≡ true → list_all (stmt_fits locals ks) all ≡ true
+    → (steps_fit locals ks 0 now ≡ true) × (list_all (stmt_fits locals ks) rest ≡ true)
+
+pub linked_text : (all rest : List Stmt) (s : Stmt) (ss now : List Step) (next place : ℕ) → all ≡ rest ++ s ∷ [] → now ≡ ss ++ record { stmt = s; next = next } ∷ [] → place ≡ length now
+    → rows_before (map row_in rest) (text_at now place) ≡ rows_before (map row_in all) (text_at ss next)
+linked_text all rest s ss now next place e f g =
+    let step : Step = record { stmt = s; next = next } in
+    let more : List Step = ss ++ step ∷ [] in
+    let long : length more ≡ suc (length ss) = length-append ss (step ∷ []) ∙ omega arith in
+    let text : text_at now place ≡ with_row (row_in s) (text_at ss next) =
+    ap (text_at now) g ∙ (ap (λ (zs : List Step). text_at zs (length zs)) f ∙ (ap (text_at more) long ∙ text_pushed ss step)) in
+    ap (rows_before (map row_in rest)) text
+    ∙ sym (ap (λ (zs : List Stmt). rows_before (map row_in zs) (text_at ss next)) e
+    ∙ (ap (λ (rs : List Row). rows_before rs (text_at ss next)) (map-append row_in rest (s ∷ [])) ∙ before_last (map row_in rest) (row_in s) (text_at ss next)))
+
+pub linked_long : (ss now : List Step) (s : Step) → now ≡ ss ++ s ∷ [] → length now ≡ length ss + 1
+linked_long ss now s f = ap (λ (zs : List Step). length zs) f ∙ length-append ss (s ∷ [])
+
+pub linked_stays : (before ss now : List Step) (s : Step) → now ≡ ss ++ s ∷ [] → length before ≤ length ss → GoesOn before ss → GoesOn before now
+linked_stays before ss now s f h go = λ p low. ap (λ (zs : List Step). text_at zs p) f ∙ (text_kept ss s p (omega arith) ∙ go p low)
+
+pub linked_fits : (whole all rest : List Stmt) (s : Stmt) (before ss now : List Step) (next : ℕ) → all ≡ rest ++ s ∷ [] → now ≡ ss ++ record { stmt = s; next = next } ∷ [] → next ≤ length ss
+    → FitsSoFar whole all before ss → FitsSoFar whole rest before now
+linked_fits whole all rest s before ss now next e f h go = λ locals ks a b.
+    let fit = go locals ks a b in
+    let p = all_popped (stmt_fits locals ks) all rest s e fit.1 in
+    (ap (steps_fit locals ks 0) f ∙ fits_pushed ss (record { stmt = s; next = next }) locals 0 ks fit.0 (omega arith) p.1, p.0)
+
+pub text_end : (ss : List Step) → text_at ss 0 ≡ Stop
+unfolding text_at
+text_end ss = refl
 
 pub none_left : (ss : List Stmt) → length ss ≡ 0 → ss ≡ []
 none_left [] h = refl

@@ -308,6 +308,8 @@ row_fits_in : (n : ℕ) (ks : List Kind) (stmt : Stmt) → stmt_fits n ks stmt �
 row_fits_in n ks (code.Get name state missing) = refl
 row_fits_in n ks (code.Put state number) = refl
 row_fits_in n ks (code.Emit values) = refl
+row_fits_in n ks (code.SetTimer time) = refl
+row_fits_in n ks (code.UnsetTimer time) = refl
 
 -- the statements fit where their rows do
 pub stmts_fit : (n : ℕ) (ks : List Kind) (stmts : List Stmt) → list_all (row_fits n ks) (map row_in stmts) ≡ true → list_all (stmt_fits n ks) stmts ≡ true

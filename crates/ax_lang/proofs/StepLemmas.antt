@@ -1,9 +1,9 @@
 -- What stands at the places of a table of steps.
-use Rattle.std.proofs.Common.{◌≡◌, ◌∙◌, ℕ, zero, suc, ◌+◌, ◌≤◌, ◌<◌, List, [], ◌∷◌, ◌++◌, length, get_or, refl, sym, ap, arith, length-append, true, ◌&&◌, nat_le, max}
+use Rattle.std.proofs.Common.{◌≡◌, ◌∙◌, ℕ, zero, suc, ◌+◌, ◌≤◌, ◌<◌, List, [], ◌∷◌, ◌++◌, length, get_or, refl, sym, ap, arith, length-append, true, ◌&&◌, nat_le, max, Option, Some, None}
 use Rattle.std.proofs.lemmas.Bool.{and_parts, leb-true}
 use Rattle.ax_text.specs.declared.vocabulary.Kind.{Kind}
 use Rattle.ax_text.specs.Texts.{Text, Stop, Act, Ask}
-use Rattle.ax_text.specs.Programs.{width, kinds_of}
+use Rattle.ax_text.specs.Programs.{width, width_some, kinds_of}
 use Rattle.ax_state.specs.declared.decls.Decl.{Decl}
 use Rattle.ax_state.specs.Decls.{kinds, states_of}
 use Rattle.ax_lang.specs.declared.step.Step.{Step}
@@ -14,13 +14,23 @@ pub kinds_shown : (ds : List Decl) → kinds ds ≡ kinds_of (states_of ds)
 kinds_shown [] = refl
 kinds_shown (d ∷ ds) = ap (λ (ks : List Kind). d.kind ∷ ks) (kinds_shown ds)
 
--- statements ask one after another
-pub width_small : (t : Text) → max 1 (max (width t) 0) ≡ 1
-width_small Stop = refl
-width_small (Act q t) = width_small t
-width_small (Ask a t) = let h : max 1 (max (width t) 0) ≡ 1 = width_small t in omega arith
+width_low : (t : Text) → width t ≤ 1
+width_low Stop = omega arith
+width_low (Act q t) = width_low t
+width_low (Ask a t) = let h : width t ≤ 1 = width_low t in omega arith
 
-text_more : (xs ys : List Text) (p : ℕ) → p ≤ length xs → text_in (xs ++ ys) p ≡ text_in xs p
+width_some_low : (t : Option Text) → width_some t ≤ 1
+width_some_low None = omega arith
+width_some_low (Some t) = width_low t
+
+-- statements ask one after another
+pub width_small : (row : Text) (timer : Option Text) → max 1 (max (width row) (width_some timer)) ≡ 1
+width_small row timer =
+    let a : width row ≤ 1 = width_low row in
+    let b : width_some timer ≤ 1 = width_some_low timer in
+    omega arith
+
+pub text_more : (xs ys : List Text) (p : ℕ) → p ≤ length xs → text_in (xs ++ ys) p ≡ text_in xs p
 text_more xs ys zero h = refl
 text_more [] ys (suc i) h = absurd (omega arith)
 text_more (x ∷ xs) ys (suc zero) h = refl

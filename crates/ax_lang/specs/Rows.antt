@@ -1,5 +1,5 @@
 -- Lines of a handler whose names are numbers, and the text that they make.
-use Rattle.std.specs.Prelude.{ℕ, ℤ, ◌+◌, ◌-◌, List, [], ◌∷◌, map, Option, Some, None, if◌then◌else◌}
+use Rattle.std.specs.Prelude.{ℕ, ℤ, ◌+◌, ◌-◌, List, [], ◌∷◌, map, Bool, true, false, Option, Some, None, if◌then◌else◌}
 use lib.Chars.{codes}
 use Rattle.ax_base.specs.Numbers.{number_of}
 use Rattle.ax_text.specs.declared.vocabulary.Op.{Op}
@@ -85,3 +85,8 @@ with_row (AskRow a) rest = Ask a rest
 abbrev pub text_of : List Row → Text
 text_of [] = Stop
 text_of (r ∷ rs) = with_row r (text_of rs)
+
+-- the text of a handler that may be missing
+abbrev pub text_if : Bool → List Row → Option Text
+text_if true rows = Some (text_of rows)
+text_if false rows = None

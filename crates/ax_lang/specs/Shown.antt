@@ -7,7 +7,7 @@ use Rattle.ax_state.specs.Decls.{states_of}
 use Rattle.ax_lang.specs.declared.step.Step.{Step}
 use Rattle.ax_lang.specs.declared.program.Program.{Program as CodeProgram}
 use Rattle.ax_lang.specs.Rows.{with_row}
-use Rattle.ax_lang.specs.Steps.{row_in, text_at, stmt_fits}
+use Rattle.ax_lang.specs.Steps.{row_in, text_at, text_some, stmt_fits}
 
 -- the text from a place of a program on
 unfoldable pub text_from : CodeProgram → ℕ → Text
@@ -15,13 +15,13 @@ text_from p place = text_at p.steps.items place
 
 -- the program that the code holds
 unfoldable pub shown : CodeProgram → Program
-shown p = record { fields = p.fields; states = states_of p.decls; row = text_at p.steps.items p.first; timer = None }
+shown p = record { fields = p.fields; states = states_of p.decls; row = text_at p.steps.items p.row; timer = text_some p.steps.items p.timer }
 
 -- the kinds of the declared states
 abbrev pub kinds_in : CodeProgram → List Kind
 kinds_in p = kinds_of (shown p).states
 
--- how many local names a handler has
+-- how many local names a handler has at most
 unfoldable pub locals_of : CodeProgram → ℕ
 locals_of p = p.locals
 

@@ -1,5 +1,6 @@
 -- What a table of steps stands for. A place counts from 1, and 0 is the end.
-use Rattle.std.specs.Prelude.{ℕ, zero, suc, ◌+◌, List, [], ◌∷◌, ◌++◌, map, Bool, true, ◌&&◌, Option, Some, None, nat_lt, nat_le, slice_index_or}
+use Rattle.std.specs.Prelude.{◌≡◌, ◌≤◌, ℕ, zero, suc, ◌+◌, List, [], ◌∷◌, ◌++◌, map, length, Bool, true, ◌&&◌, Option, Some, None, nat_lt, nat_le, slice_index_or}
+use Rattle.std.specs.List.{list_all}
 use Rattle.ax_text.specs.declared.vocabulary.Kind.{Kind}
 use Rattle.ax_text.specs.declared.vocabulary.Kind.TheVariants as kind
 use Rattle.ax_text.specs.Texts.{Text, Stop}
@@ -15,6 +16,8 @@ abbrev pub row_in : Stmt → Row
 row_in (code.Get name state missing) = AskRow (text.Get name state (seen missing))
 row_in (code.Put state number) = AskRow (text.Put state (seen number))
 row_in (code.Emit values) = ActRow (text.Emit (map seen values))
+row_in (code.SetTimer time) = ActRow (text.Timer (seen time))
+row_in (code.UnsetTimer time) = ActRow (text.Untimer (seen time))
 
 abbrev pub row_some : Option Stmt → Option Row
 row_some None = None
@@ -32,13 +35,28 @@ texts_from texts (s ∷ ss) = texts_from (texts ++ with_row (row_in s.stmt) (tex
 unfoldable pub text_at : List Step → ℕ → Text
 text_at steps place = text_in (texts_from [] steps) place
 
+-- the text from a place of a table on, where there is one
+abbrev pub text_some : List Step → Option ℕ → Option Text
+text_some steps None = None
+text_some steps (Some place) = Some (text_at steps place)
+
+-- a table goes on: what stands at its places stays
+abbrev pub GoesOn : List Step → List Step → Type 0
+GoesOn before after = (place : ℕ) → place ≤ length before → text_at after place ≡ text_at before place
+
 -- a statement's local name and state exist, and the state has the statement's kind
 abbrev pub stmt_fits : ℕ → List Kind → Stmt → Bool
 stmt_fits locals kinds (code.Get name state missing) = nat_lt name locals && has_kind kinds state kind.Value
 stmt_fits locals kinds (code.Put state number) = has_kind kinds state kind.Value
 stmt_fits locals kinds (code.Emit values) = true
+stmt_fits locals kinds (code.SetTimer time) = true
+stmt_fits locals kinds (code.UnsetTimer time) = true
 
 -- each statement fits, and its step leads to a lower place; n steps stand before
 abbrev pub steps_fit : ℕ → List Kind → ℕ → List Step → Bool
 steps_fit locals kinds n [] = true
 steps_fit locals kinds n (s ∷ ss) = (nat_le s.next n && stmt_fits locals kinds s.stmt) && steps_fit locals kinds (n + 1) ss
+
+-- where the table fits and so do these statements, the table with them does
+abbrev pub FitsWith : List Stmt → List Step → List Step → Type 0
+FitsWith stmts before after = (locals : ℕ) → (kinds : List Kind) → steps_fit locals kinds 0 before ≡ true → list_all (stmt_fits locals kinds) stmts ≡ true → steps_fit locals kinds 0 after ≡ true

@@ -12,7 +12,7 @@ pub mod tables;
 pub use laws::expression_law;
 pub use program::Program;
 pub use reader::{ProgFault, SectionEnd, read_program};
-pub use step::{Step, Stmt};
+pub use step::{Handlers, Step, Stmt};
 
 #[cfg(test)]
 mod tests;

@@ -4,22 +4,24 @@ ghost use Rattle.std.specs.List.{list_all};
 ghost use Rattle.std.specs.Option.{option_copied};
 ghost use Rattle.ax_text.specs.Programs.{program_width};
 ghost use Rattle.ax_state.specs.Decls.{kinds, states_of};
-ghost use Rattle.ax_lang.specs.Rows.{text_of};
-ghost use Rattle.ax_lang.specs.Steps.{row_in, stmt_fits, steps_fit};
+ghost use Rattle.ax_text.specs.Programs.{text_or_stop};
+ghost use Rattle.ax_lang.specs.Rows.{text_of, text_if};
+ghost use Rattle.ax_lang.specs.Steps.{row_in, text_at, text_some, GoesOn, stmt_fits, steps_fit, FitsWith};
 
-use crate::step::{Step, Stmt};
+use crate::step::{Handlers, Step, Stmt};
 use ax_base::NoMemory;
 use ax_state::Decls;
 use std::alloc::Global;
 
-/// A program that passed the validator: its declarations, and the statements of `on row` as a table of steps.
+/// A program that passed the validator: its declarations, and the statements of its handlers as one table of steps.
 #[derive(Drop)]
 pub struct Program {
     fields: u8,
     decls: Decls,
     locals: usize,
     steps: Vec<Step>,
-    first: usize,
+    row: usize,
+    timer: Option<usize>,
     ghost few_fields: { fields ≤ 16 },
     ghost few_locals: { locals ≤ 256 },
     ghost fits: { steps_fit locals (kinds decls) 0 steps.items ≡ true },
@@ -28,7 +30,7 @@ pub struct Program {
 impl Program {
     ghost use Rattle.ax_lang.specs.Shown.{shown, kinds_in, locals_of, text_from, StandsAt};
 
-    /// The program of these statements, in order. The table is made from the last statement backwards.
+    /// The program of these statements; those of `on timer` count where there is one.
     ///
     /// Conditions: at most 16 values and 256 local names, and each statement's local name and state exist.
     #[tactic(auto, unfolding(crate::specs::Shown::shown))]
@@ -37,25 +39,25 @@ impl Program {
         fields: u8,
         decls: Decls,
         locals: usize,
-        stmts: Vec<Stmt>,
+        handlers: Handlers,
+        has_timer: bool,
     ) -> Result<Program, NoMemory>
         requires fields { fields ≤ 16 }
         requires locals { locals ≤ 256 }
-        requires fit { list_all (stmt_fits locals (kinds decls)) stmts.items ≡ true }
-        ensures { IfOk result (λ p. shown p ≡ record { fields = fields; states = states_of decls; row = text_of (map row_in stmts.items); timer = None }) }
+        requires row { list_all (stmt_fits locals (kinds decls)) handlers.row.items ≡ true }
+        requires timer { list_all (stmt_fits locals (kinds decls)) handlers.timer.items ≡ true }
+        ensures { IfOk result (λ p. shown p ≡ record { fields = fields; states = states_of decls; row = text_of (map row_in handlers.row.items); timer = text_if has_timer (map row_in handlers.timer.items) }) }
     {
-        let mut stmts = stmts;
         let mut steps = Vec::new(alloc);
-        while let Some(stmt) = stmts.pop() {
-            push_step(&mut steps, stmt)?;
-        }
-        let first = steps.len();
+        let row = link(&mut steps, handlers.row)?;
+        let timer = link_if(has_timer, &mut steps, handlers.timer)?;
         Ok(Program {
             fields,
             decls,
             locals,
             steps,
-            first,
+            row,
+            timer,
         })
     }
 
@@ -90,10 +92,10 @@ impl Program {
     pub fn has_timer(&self) -> bool
         ensures { result ≡ is_some (shown self.now).timer }
     {
-        false
+        self.timer.is_some()
     }
 
-    /// How many local names a handler has, from 0 to 256.
+    /// How many local names a handler has at most, from 0 to 256.
     #[tactic(auto, unfolding(crate::specs::Shown::locals_of))]
     pub fn locals(&self) -> usize
         ensures value { result ≡ locals_of self.now }
@@ -107,7 +109,18 @@ impl Program {
     pub fn first(&self) -> usize
         ensures { text_from self.now result ≡ (shown self.now).row }
     {
-        self.first
+        self.row
+    }
+
+    /// The place where `on timer` begins; the end, 0, where there is none.
+    #[tactic(auto, unfolding(crate::specs::Shown::shown, crate::specs::Shown::text_from, crate::specs::Steps::text_at))]
+    pub fn timer_first(&self) -> usize
+        ensures { text_from self.now result ≡ text_or_stop (shown self.now).timer }
+    {
+        match self.timer {
+            None => 0,
+            Some(place) => place,
+        }
     }
 
     /// What stands at a place; nothing at 0, the end, and past the last place.
@@ -122,14 +135,43 @@ impl Program {
     }
 }
 
-// A statement stands before those of the table so far, whose first is the last one.
-fn push_step(steps: &mut Vec<Step>, stmt: Stmt) -> Result<(), NoMemory>
-    ensures { OnOk result (steps.new.items ≡ steps.old.items ++ record { stmt = stmt; next = length steps.old.items } ∷ []) }
+// A statement goes last into the table, and leads to a place.
+fn push_step(steps: &mut Vec<Step>, stmt: Stmt, next: usize) -> Result<(), NoMemory>
+    ensures { OnOk result (steps.new.items ≡ steps.old.items ++ record { stmt = stmt; next = next } ∷ []) }
 {
-    let next = steps.len();
     match steps.push(Step { stmt, next }) {
         Ok(()) => Ok(()),
         Err(_) => Err(NoMemory),
+    }
+}
+
+// Puts a handler's statements into the table, from the last one backwards, and gives the place where it begins.
+fn link(steps: &mut Vec<Step>, stmts: Vec<Stmt>) -> Result<usize, NoMemory>
+    ensures text { IfOk result (λ first. text_at steps.new.items first ≡ text_of (map row_in stmts.items)) }
+    ensures place { IfOk result (λ first. first ≤ length steps.new.items) }
+    ensures stays { OnOk result (GoesOn steps.old.items steps.new.items) }
+    ensures fits { OnOk result (FitsWith stmts.items steps.old.items steps.new.items) }
+{
+    let mut stmts = stmts;
+    let mut next = 0;
+    while let Some(stmt) = stmts.pop() {
+        push_step(steps, stmt, next)?;
+        next = steps.len();
+    }
+    Ok(next)
+}
+
+// The same for a handler that may be missing.
+fn link_if(has: bool, steps: &mut Vec<Step>, stmts: Vec<Stmt>) -> Result<Option<usize>, NoMemory>
+    ensures text { IfOk result (λ first. text_some steps.new.items first ≡ text_if has (map row_in stmts.items)) }
+    ensures stays { OnOk result (GoesOn steps.old.items steps.new.items) }
+    ensures fits { OnOk result (FitsWith stmts.items steps.old.items steps.new.items) }
+{
+    if has {
+        let first = link(steps, stmts)?;
+        Ok(Some(first))
+    } else {
+        Ok(None)
     }
 }
 

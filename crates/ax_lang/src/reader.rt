@@ -10,7 +10,7 @@ ghost use Rattle.ax_lang.specs.Programs.{row_list, ended, program_in, is_whole, 
 
 use crate::program::Program;
 use crate::rows::stmt_of;
-use crate::step::Stmt;
+use crate::step::{Handlers, Stmt};
 use crate::tables::Tables;
 use ax_base::{Line, NoMemory};
 use ax_syntax::Shape;
@@ -113,7 +113,11 @@ fn finish(
     match tables.fields {
         Some(fields) if tables.row && !tables.inside && end.found => {
             let locals = tables.locals.as_slice().len();
-            match Program::new(alloc, fields, tables.states, locals, stmts) {
+            let handlers = Handlers {
+                row: stmts,
+                timer: Vec::new(alloc),
+            };
+            match Program::new(alloc, fields, tables.states, locals, handlers, false) {
                 Ok(program) => Ok(program),
                 Err(NoMemory) => Err(ProgFault::NoMemory),
             }

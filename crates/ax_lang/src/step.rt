@@ -20,6 +20,14 @@ pub enum Stmt {
     Emit {
         values: ListOf<Expr>,
     },
+    /// A timer of the key is set at this time.
+    SetTimer {
+        time: Expr,
+    },
+    /// The key's timer at this time is taken off.
+    UnsetTimer {
+        time: Expr,
+    },
 }
 
 /// A statement, and the place that comes after it. A place counts from 1, and 0 is the end.
@@ -27,4 +35,13 @@ pub enum Stmt {
 pub struct Step {
     pub stmt: Stmt,
     pub next: usize,
+}
+
+/// The statements of the two handlers, each in order.
+#[derive(Drop)]
+pub struct Handlers {
+    /// Those of `on row`.
+    pub row: Vec<Stmt>,
+    /// Those of `on timer`.
+    pub timer: Vec<Stmt>,
 }

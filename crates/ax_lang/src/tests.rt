@@ -306,6 +306,8 @@ fn stands(program: &Program, place: usize) -> (&'static str, usize) {
         Stmt::Get { .. } => ("get", step.next),
         Stmt::Put { .. } => ("put", step.next),
         Stmt::Emit { .. } => ("emit", step.next),
+        Stmt::SetTimer { .. } => ("timer", step.next),
+        Stmt::UnsetTimer { .. } => ("untimer", step.next),
     }
 }
 
