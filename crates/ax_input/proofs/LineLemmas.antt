@@ -13,9 +13,9 @@ use Rattle.ax_base.specs.Pieces.{is_too_long}
 use Rattle.ax_base.proofs.PieceLemmas.{pieces_of-line}
 use Rattle.ax_keys.specs.Keys.{is_key, is_key_byte}
 use Rattle.ax_syntax.specs.Words.{Word, keyword_of, is_letter, is_name_byte, is_lettered, is_value_word, is_name}
-use Rattle.ax_machine.specs.Events.{Event, Row}
+use Rattle.ax_machine.specs.Events.{Event, Row, Mark as MarkEvent, Barrier}
 use Rattle.ax_input.specs.Spellings.{is_number, numbers_of, both}
-use Rattle.ax_input.specs.Events.{Good, Bad, event_of, event_by, row_by, row_with, event_words, event_line, is_event, is_blank_or_comment}
+use Rattle.ax_input.specs.Events.{Good, Bad, event_of, event_by, row_by, row_with, mark_with, is_id, barrier_with, event_words, event_line, is_event, is_blank_or_comment}
 use Rattle.ax_machine.specs.OutLines.{OutLine, Out, Mark, Head, Value, Item, Entry, Timer, End, line_words, line_of, behind_spaces}
 use Rattle.ax_input.specs.OutLines.{is_few, when, out_by, mark_by, head_by, is_place, value_by, item_by, entry_by, timer_by, end_by, out_line_of, is_line}
 use Rattle.ax_input.specs.Laws.{IsEventBack, IsLineBack, IsOneLine}
@@ -106,6 +106,8 @@ solid_event (Row key time values) e =
     and_true (is_solid key) (is_solid (signed_decimal time) && list_all is_solid (map signed_decimal values)) (solid_key key front.0)
     (and_true (is_solid (signed_decimal time)) (list_all is_solid (map signed_decimal values)) (solid_signed time front.1)
     (solid_numbers values (and_parts (nat_le (length values) 16) (list_all is_number values) parts.1).1))
+solid_event (MarkEvent time) e = one_solid (signed_decimal time) (solid_signed time e)
+solid_event (Barrier id) e = one_solid (signed_decimal id) (solid_signed id (and_parts (is_number id) (is_id id) e).0)
 
 -- the words of a line are that line
 
@@ -162,6 +164,13 @@ unfolding event_of
 event_back (Row key time values) e =
     let words = words_of-spaced (event_words (Row key time values)) (solid_event (Row key time values) e) in
     (ap (event_by (length values)) words ∙ row_read key time values e, ap is_blank_or_comment words)
+event_back (MarkEvent time) e =
+    let words = words_of-spaced (event_words (MarkEvent time)) (solid_event (MarkEvent time) e) in
+    (ap (event_by 0) words ∙ ap mark_with (number_of-signed time e), ap is_blank_or_comment words)
+event_back (Barrier id) e =
+    let words = words_of-spaced (event_words (Barrier id)) (solid_event (Barrier id) e) in
+    let parts = and_parts (is_number id) (is_id id) e in
+    (ap (event_by 0) words ∙ ap barrier_with (number_of-signed id parts.0) ∙ ap (λ t. cond t (Good (Barrier id)) (Bad 3)) parts.1, ap is_blank_or_comment words)
 
 -- a spelling is one line
 
@@ -244,6 +253,10 @@ length_event (Row key time values) e =
       length_number time front.1,
       length_numbers values rest.1,
     )
+length_event (MarkEvent time) e = omega (arith, length_one (signed_decimal time), length_number time e)
+length_event (Barrier id) e =
+    let parts = and_parts (is_number id) (is_id id) e in
+    omega (arith, length_one (signed_decimal id), length_number id parts.0)
 
 pub no_feed_line : (l : OutLine) → is_line l ≡ true → no_feed (line_of l) ≡ true
 no_feed_line l e = no_feed-spaced (line_words l) (solid_line l e)

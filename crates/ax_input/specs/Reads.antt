@@ -21,5 +21,4 @@ ReadsEvent r (Err fault.Word) = r ≡ Bad 1
 ReadsEvent r (Err fault.Key) = r ≡ Bad 2
 ReadsEvent r (Err fault.Number) = r ≡ Bad 3
 ReadsEvent r (Err fault.Count) = r ≡ Bad 4
-ReadsEvent r (Err fault.Unbuilt) = r ≡ Bad 8
 ReadsEvent r (Err fault.NoMemory) = Unit {0}

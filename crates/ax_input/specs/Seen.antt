@@ -1,6 +1,6 @@
 -- What the code holds, as the definitions take it.
 use Rattle.std.specs.Prelude.{Option, Some, None}
-use Rattle.ax_machine.specs.Events.{Event, Row}
+use Rattle.ax_machine.specs.Events.{Event, Row, Mark as MarkEvent, Barrier}
 use Rattle.ax_machine.specs.OutLines.{OutLine, Out, Mark, Head, Value, Item, Entry, Timer, End}
 use Rattle.ax_input.specs.declared.event.Event.{Event as CodeEvent}
 use Rattle.ax_input.specs.declared.event.Event.TheVariants as event
@@ -11,6 +11,8 @@ use Rattle.ax_input.specs.declared.line.SnapLine.TheVariants as snap
 
 abbrev pub seen_event : CodeEvent → Event
 seen_event (event.Row key time values) = Row key time values
+seen_event (event.Mark time) = MarkEvent time
+seen_event (event.Barrier id) = Barrier id
 
 abbrev pub seen_snap : SnapLine → OutLine
 seen_snap (snap.Head id wm) = Head id wm

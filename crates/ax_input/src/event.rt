@@ -1,7 +1,7 @@
 //! The lines of events.
-ghost use Rattle.std.specs.Prelude.{◌≡◌, ◌∷◌, length};
+ghost use Rattle.std.specs.Prelude.{◌≡◌, MatchOption};
 ghost use Rattle.ax_base.specs.Words.{words_of};
-ghost use Rattle.ax_input.specs.Events.{is_skipped, row_by, event_of};
+ghost use Rattle.ax_input.specs.Events.{is_skipped, only_word, row_by, mark_by, barrier_by, event_of};
 ghost use Rattle.ax_input.specs.Reads.{ReadsEvent, SplitsRow};
 
 use crate::numbers::{has_words, numbers};
@@ -12,11 +12,15 @@ use ax_syntax::words::same;
 use std::alloc::Global;
 use thiserror::Error;
 
-/// An event. Watermarks and barriers aren't built yet.
+/// An event.
 #[derive(Debug, Drop)]
 pub enum Event {
     /// A row of a key, with as many values as the program's rows have, at most 16.
     Row { key: Key, time: i64, values: Nums },
+    /// A watermark: no row before this time comes behind it.
+    Mark { time: i64 },
+    /// A barrier, at which a snapshot is taken. Its ID is 1 or more.
+    Barrier { id: i64 },
 }
 
 /// Why a line gives no event: its first fault.
@@ -28,15 +32,12 @@ pub enum EventFault {
     /// The key isn't 1 to 256 printing bytes.
     #[error("the key is none")]
     Key,
-    /// The time or a value is no number of 64 bits.
-    #[error("a word is no number of 64 bits")]
+    /// A time, a value or an ID is no number of 64 bits, or the ID is below 1.
+    #[error("a word is no such number")]
     Number,
     /// There are more words, or fewer, than the event has.
     #[error("the number of words is wrong")]
     Count,
-    /// The event isn't built yet: the first word is `w` or `b`.
-    #[error("the event isn't built yet")]
-    Unbuilt,
     /// Memory was short.
     #[error("memory was short")]
     NoMemory,
@@ -95,10 +96,47 @@ fn read_row(alloc: Global, text: &[u8], fields: u8) -> Result<Event, EventFault>
     }
 }
 
-/// The event of a line, where a row has so many values: `r KEY TIME V1 .. VN`.
+// The only word of a text; `None` where there is none, or another behind it.
+fn only_word(text: &[u8]) -> Option<&[u8]>
+    ensures { MatchOption result (only_word (words_of text.now) ≡ None) (λ word. only_word (words_of text.now) ≡ Some word.now) }
+{
+    let (word, rest) = first_word(text)?;
+    match first_word(rest) {
+        Some(_) => None,
+        None => Some(word),
+    }
+}
+
+// The watermark that these words are, behind its first word.
+fn read_mark(text: &[u8]) -> Result<Event, EventFault>
+    ensures { ReadsEvent (mark_by (only_word (words_of text.now))) result }
+{
+    let Some(time) = only_word(text) else {
+        return Err(EventFault::Count);
+    };
+    match read_i64(time) {
+        Some(time) => Ok(Event::Mark { time }),
+        None => Err(EventFault::Number),
+    }
+}
+
+// The barrier that these words are, behind its first word.
+fn read_barrier(text: &[u8]) -> Result<Event, EventFault>
+    ensures { ReadsEvent (barrier_by (only_word (words_of text.now))) result }
+{
+    let Some(id) = only_word(text) else {
+        return Err(EventFault::Count);
+    };
+    match read_i64(id) {
+        Some(id) if id >= 1 => Ok(Event::Barrier { id }),
+        _ => Err(EventFault::Number),
+    }
+}
+
+/// The event of a line, where a row has so many values: `r KEY TIME V1 .. VN`, `w TIME` or `b ID`.
 ///
 /// Each fault comes exactly where the first fault is of that kind; `NoMemory` is free. They are tried in this order: Word,
-/// Unbuilt, Count, Key, Number. Blank lines and comments are told by `is_skipped`; here they are faults of kind Word.
+/// Count, Key, Number. Blank lines and comments are told by `is_skipped`; here they are faults of kind Word.
 #[tactic(auto, unfolding(crate::specs::Events::event_of))]
 pub fn read_event(alloc: Global, text: &[u8], fields: u8) -> Result<Event, EventFault>
     ensures { ReadsEvent (event_of fields text.now) result }
@@ -109,8 +147,11 @@ pub fn read_event(alloc: Global, text: &[u8], fields: u8) -> Result<Event, Event
     if same(word, b"r") {
         return read_row(alloc, rest, fields);
     }
-    if same(word, b"w") || same(word, b"b") {
-        Err(EventFault::Unbuilt)
+    if same(word, b"w") {
+        return read_mark(rest);
+    }
+    if same(word, b"b") {
+        read_barrier(rest)
     } else {
         Err(EventFault::Word)
     }

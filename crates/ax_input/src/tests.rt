@@ -31,7 +31,7 @@ fn fault_of(alloc: Global, text: &[u8], fields: u8) -> Option<EventFault> {
 
 #[test]
 fn first_faults_of_events(rt: HostRuntime) -> Result<(), Fail> {
-    let cases: [(&[u8], u8, Option<EventFault>); 14] = [
+    let cases: [(&[u8], u8, Option<EventFault>); 23] = [
         (b"r a 1 5", 1, None),
         (b"  r\ta  1 \r", 0, None),
         (b"r a 1", 1, Some(EventFault::Count)),
@@ -41,8 +41,17 @@ fn first_faults_of_events(rt: HostRuntime) -> Result<(), Fail> {
         (b"r \x7f - -", 1, Some(EventFault::Key)),
         (b"r a 1 -", 1, Some(EventFault::Number)),
         (b"r a 9223372036854775808 1", 1, Some(EventFault::Number)),
-        (b"w 3", 1, Some(EventFault::Unbuilt)),
-        (b"b 1", 1, Some(EventFault::Unbuilt)),
+        (b"w -3", 1, None),
+        (b"w", 1, Some(EventFault::Count)),
+        (b"w 3 4", 1, Some(EventFault::Count)),
+        (b"w x", 1, Some(EventFault::Number)),
+        (b"b 1", 1, None),
+        (b"b", 1, Some(EventFault::Count)),
+        (b"b 0 x", 1, Some(EventFault::Count)),
+        (b"b 0", 1, Some(EventFault::Number)),
+        (b"b -1", 1, Some(EventFault::Number)),
+        (b"b 1x", 1, Some(EventFault::Number)),
+        (b"bb 1", 1, Some(EventFault::Word)),
         (b"x", 1, Some(EventFault::Word)),
         (b"rr a 1 5", 1, Some(EventFault::Word)),
         (b"", 1, Some(EventFault::Word)),
@@ -55,7 +64,7 @@ fn first_faults_of_events(rt: HostRuntime) -> Result<(), Fail> {
 
 #[test]
 fn events_both_ways(rt: HostRuntime) -> Result<(), Fail> {
-    let cases: [(&str, u8, &str); 3] = [
+    let cases: [(&str, u8, &str); 5] = [
         ("r a 1 5", 1, ">r a 1 5\n"),
         (" r\t!~ -0  007\r", 1, ">r !~ 0 7\n"),
         (
@@ -63,6 +72,8 @@ fn events_both_ways(rt: HostRuntime) -> Result<(), Fail> {
             2,
             ">r k -9223372036854775808 9223372036854775807 -1\n",
         ),
+        ("\tw  -03", 1, ">w -3\n"),
+        ("b 9223372036854775807 ", 2, ">b 9223372036854775807\n"),
     ];
     for (text, fields, wanted) in cases {
         let mut out = Bytes::from_slice(rt.alloc(), b">")?;

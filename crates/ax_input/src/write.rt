@@ -153,6 +153,12 @@ fn draft_event(draft: &mut Draft, event: &Event) -> Result<(), NoMemory>
             put_numbers(draft, values.as_slice())?;
             draft.put(b"\n")
         }
+        Event::Mark { time } => draft_watermark(draft, *time),
+        Event::Barrier { id } => {
+            draft.put(b"b")?;
+            put_number(draft, *id)?;
+            draft.put(b"\n")
+        }
     }
 }
 
