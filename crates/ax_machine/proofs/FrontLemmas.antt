@@ -1,8 +1,8 @@
 -- The front of a list is lawful so far.
-use Rattle.std.proofs.Common.{◌≡◌, ℕ, suc, ◌+◌, ◌≤◌, ℤ, List, [], ◌∷◌, ◌++◌, length, Bool, true, false, cond, refl, sym, ap, ◌∙◌, arith, subst}
+use Rattle.std.proofs.Common.{◌≡◌, ℕ, suc, ◌+◌, ◌≤◌, ℤ, List, [], ◌∷◌, ◌++◌, length, Bool, true, false, cond, refl, sym, ap, ◌∙◌, arith, subst, append_assoc, length-append}
 use Rattle.std.specs.Str.{bytes_eq}
 use Rattle.ax_machine.specs.Entries.{Key, Marker, Entry, Out, Mark, lines_of}
-use Rattle.ax_machine.specs.Lawful.{Cut, one_more, cuts_from, cuts, markers, HasAll, HasNoMore, line_count, LawfulSoFar}
+use Rattle.ax_machine.specs.Lawful.{IsPrefix, Cut, one_more, cuts_from, cuts, markers, HasAll, HasNoMore, line_count, LawfulSoFar}
 
 lines_if : (b : Bool) (line : List ℤ) (xs ys zs : List (List ℤ)) → zs ≡ xs ++ ys → cond b (line ∷ zs) zs ≡ cond b (line ∷ xs) xs ++ ys
 lines_if true line xs ys zs e = ap (λ s. line ∷ s) e
@@ -70,4 +70,38 @@ lawful_so_far_front serial xs ys =
       has_all = subst AllOf (sym both) (all_front (cuts xs) (cuts_from behind ys));
       has_no_more = subst NoMoreOf (sym both) (no_more_front serial (line_count xs) (cuts xs) (cuts_from behind ys)
           (not_yet serial (line_count xs) behind ys (λ k. omega (arith, counts_behind-is (λ k. 0) xs k))));
+    }
+
+-- what was written so far, where the plain thread writes more
+all_longer : (cs ds es : List Cut) → HasAll cs ds → HasAll cs (ds ++ es)
+all_longer [] ds es h = tt
+all_longer (c ∷ cs) [] es h = absurd h
+all_longer (c ∷ cs) (d ∷ ds) es h = (h.0, all_longer cs ds es h.1)
+
+no_more_longer : (serial : Bool) (all : Key → ℕ) (cs ds es : List Cut) → HasAll cs ds → HasNoMore serial all [] es → HasNoMore serial all cs ds → HasNoMore serial all cs (ds ++ es)
+no_more_longer serial all [] [] es whole more h = more
+no_more_longer serial all [] (d ∷ ds) es whole more h = (h.0, no_more_longer serial all [] ds es whole more h.1)
+no_more_longer serial all (c ∷ cs) [] es whole more h = absurd whole
+no_more_longer serial all (c ∷ cs) (d ∷ ds) es whole more h = (h.0, no_more_longer serial all cs ds es whole.1 more h.1)
+
+prefix_longer : {A : Type 0} (xs ys zs both : List A) → both ≡ ys ++ zs → IsPrefix xs ys → IsPrefix xs both
+prefix_longer xs ys zs both e h = (h.0 ++ zs, e ∙ ap (λ ws. ws ++ zs) h.1 ∙ append_assoc xs h.0 zs)
+
+prefix_count : {A : Type 0} (xs ys : List A) → IsPrefix xs ys → length xs ≤ length ys
+prefix_count xs ys h = omega (arith, ap length h.1, length-append xs h.0)
+
+pub lawful_so_far_longer : (serial : Bool) (written plain more : List Entry) → LawfulSoFar serial written plain → LawfulSoFar serial written (plain ++ more)
+lawful_so_far_longer serial written plain more h =
+    let behind : Key → ℕ = counts_behind (λ k. 0) plain in
+    let further : List Cut = cuts_from behind more in
+    let both : cuts (plain ++ more) ≡ cuts plain ++ further = cuts_from-append (λ k. 0) plain more in
+    let AllOf : List Cut → Type 0 = HasAll (cuts written) in
+    let NoMoreOf : List Cut → Type 0 = HasNoMore serial (line_count written) (cuts written) in
+    record {
+      lines = λ k. prefix_longer (lines_of k written) (lines_of k plain) (lines_of k more) (lines_of k (plain ++ more)) (lines_of-append k plain more) (h.lines k);
+      markers = prefix_longer (markers (cuts written)) (markers (cuts plain)) (markers further) (markers (cuts (plain ++ more))) (ap markers both ∙ markers-append (cuts plain) further) h.markers;
+      has_all = subst AllOf (sym both) (all_longer (cuts written) (cuts plain) further h.has_all);
+      has_no_more = subst NoMoreOf (sym both) (no_more_longer serial (line_count written) (cuts written) (cuts plain) further h.has_all
+          (not_yet serial (line_count written) behind more
+          (λ k. omega (arith, counts_behind-is (λ k. 0) plain k, prefix_count (lines_of k written) (lines_of k plain) (h.lines k)))) h.has_no_more);
     }

@@ -2,4 +2,5 @@ pub mod FiringLemmas
 pub mod FrontLemmas
 pub mod KeyLemmas
 pub mod LawfulLemmas
+pub mod RisingLemmas
 pub mod StepLemmas

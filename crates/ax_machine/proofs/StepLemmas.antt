@@ -1,5 +1,5 @@
 -- A step does the same whatever was written before, and writes behind it.
-use Rattle.std.proofs.Common.{◌≡◌, ℕ, zero, suc, ◌*◌, ℤ, int_lt, List, [], ◌∷◌, ◌++◌, length, Bool, true, false, cond, Option, Some, None, refl, sym, ap, ◌∙◌, append_assoc, append-nil}
+use Rattle.std.proofs.Common.{◌≡◌, ℕ, zero, suc, ◌*◌, ℤ, int_lt, List, [], ◌∷◌, ◌++◌, length, Bool, true, false, cond, Option, Some, None, refl, sym, ap, ◌∙◌, append_assoc, append-nil, subst}
 use Rattle.ax_text.specs.Run.{World}
 use Rattle.ax_text.specs.KeyStates.{KeyState}
 use Rattle.ax_text.specs.Programs.{Program}
@@ -7,7 +7,9 @@ use Rattle.ax_machine.specs.Entries.{Key, Marker, Watermark, Entry, says}
 use Rattle.ax_machine.specs.Entries as entry
 use Rattle.ax_machine.specs.Events.{Event, Row, Mark, Barrier}
 use Rattle.ax_machine.specs.Firings.{Due, most_firings, next_due, one_less}
-use Rattle.ax_machine.specs.Sync.{Plain, row_run, firing_run, without_least, does, knows, fire, fire_next, fire_all, all_fired, at_watermark, writes, block_of, plain_step, plain_steps, silent, behind}
+use Rattle.ax_machine.specs.Sync.{Plain, row_run, firing_run, without_least, does, knows, fire, fire_next, fire_all, all_fired, at_watermark, writes, block_of, plain_step, plain_steps, plain_start, sync, silent, behind}
+use Rattle.ax_machine.specs.Lawful.{LawfulSoFar, LawfulSoFarFor}
+use Rattle.ax_machine.proofs.FrontLemmas.{lawful_so_far_longer}
 
 with_entries : {s t : Plain} → s.wm ≡ t.wm → s.keys ≡ t.keys → s.map ≡ t.map → s.entries ≡ t.entries → s ≡ t
 with_entries p q r e = λ i. record { wm = p i; keys = q i; map = r i; entries = e i }
@@ -64,3 +66,14 @@ steps_behind m p events s = ap (plain_steps m p events) (silent_behind s) ∙ st
 pub steps_append : (m : ℕ) (p : Program) (xs ys : List Event) (s : Plain) → plain_steps m p (xs ++ ys) s ≡ plain_steps m p ys (plain_steps m p xs s)
 steps_append m p [] ys s = refl
 steps_append m p (e ∷ xs) ys s = steps_append m p xs ys (plain_step m p e s)
+
+-- what the plain thread writes for more events begins with what it writes for the first of them
+pub sync_longer : (m : ℕ) (p : Program) (xs ys : List Event)
+    → (sync m p (xs ++ ys)).entries ≡ (sync m p xs).entries ++ (plain_steps m p ys (silent (sync m p xs))).entries
+sync_longer m p xs ys = ap (λ (s : Plain). s.entries) (steps_append m p xs ys (plain_start p) ∙ steps_behind m p ys (sync m p xs))
+
+pub lawful_for_more : (m : ℕ) (serial : Bool) (p : Program) (xs ys : List Event) (written : List Entry)
+    → LawfulSoFarFor m serial p xs written → LawfulSoFarFor m serial p (xs ++ ys) written
+lawful_for_more m serial p xs ys written h =
+    let So : List Entry → Type 0 = LawfulSoFar serial written in
+    subst So (sym (sync_longer m p xs ys)) (lawful_so_far_longer serial written (sync m p xs).entries (plain_steps m p ys (silent (sync m p xs))).entries h)

@@ -1,11 +1,14 @@
 //! Laws over the definitions.
 ghost use Rattle.std.specs.Prelude.{◌≡◌, ℕ, List, Bool, [], ◌∷◌, ◌++◌, codes, pos};
+ghost use Rattle.std.specs.List.Sorted.{IsStrictlySortedBy};
+ghost use Rattle.std.specs.Ordering.{int_cmp};
+ghost use Rattle.ax_keys.specs.Keys.{key_cmp};
 ghost use Rattle.ax_text.specs.Programs.{Program};
 ghost use Rattle.ax_machine.specs.Entries.{Key, Entry, Out};
 ghost use Rattle.ax_machine.specs.Events.{Event, Mark, Barrier};
 ghost use Rattle.ax_machine.specs.Sync.{Plain, plain_steps, sync, silent, behind};
 ghost use Rattle.ax_machine.specs.KeySync.{IsProjected};
-ghost use Rattle.ax_machine.specs.Lawful.{Lawful, LawfulSoFar};
+ghost use Rattle.ax_machine.specs.Lawful.{Lawful, LawfulSoFar, LawfulSoFarFor};
 ghost use Rattle.ax_machine.specs.Examples.{counting, clicks, line, alarm, late_alarm, same_alarm, three_alarms, ticking, ticks, lasting, saved, watermark, block};
 
 /// What the plain thread writes is lawful: each list is lawful for itself.
@@ -23,10 +26,22 @@ pub fn steps_write_behind()
     ensures { (m : ℕ) (p : Program) (events : List Event) (s : Plain) → plain_steps m p events s ≡ behind s.entries (plain_steps m p events (silent s)) }
 {}
 
+/// What may have been written so far for events may have been written so far for these and further ones.
+pub fn further_events_change_nothing()
+    ensures { (m : ℕ) (serial : Bool) (p : Program) (first further : List Event) (written : List Entry)
+        → LawfulSoFarFor m serial p first written → LawfulSoFarFor m serial p (first ++ further) written }
+{}
+
 /// What the plain thread of all keys has and writes of a key is what the thread of that key alone has and writes:
 /// the order in which keys fire makes no difference to any of them.
 pub fn keys_are_apart()
     ensures { (m : ℕ) (p : Program) (k : Key) (events : List Event) → IsProjected m p k events }
+{}
+
+/// The keys that had a row rise by their bytes, each once, and so do the times of each key.
+pub fn keys_and_times_rise()
+    ensures keys { (m : ℕ) (p : Program) (events : List Event) → IsStrictlySortedBy key_cmp (sync m p events).keys }
+    ensures times { (m : ℕ) (p : Program) (events : List Event) (k : Key) → IsStrictlySortedBy int_cmp ((sync m p events).map k).times }
 {}
 
 /// A worked example: the counting program, over rows of two keys by turns.
