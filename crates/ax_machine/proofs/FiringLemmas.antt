@@ -4,7 +4,7 @@ use Rattle.std.specs.Str.{bytes_eq}
 use Rattle.std.specs.List.{list_any}
 use Rattle.std.specs.Ordering.{ordering_then, ordering_reverse}
 use Rattle.std.specs.Cmp.{IsTotalOrder}
-use Rattle.std.proofs.lemmas.Bool.{true≢false, or_right, cond-true}
+use Rattle.std.proofs.lemmas.Bool.{true≢false, or_right, cond-true, cond-false}
 use Rattle.std.proofs.lemmas.Cmp.{int_cmp_total, nat_list_cmp_total, on_total, then_total, upto, tied_itself}
 use Rattle.std.proofs.lemmas.Map.Lookups.{exact_signed, exact_bytes}
 use Rattle.std.proofs.lemmas.Slice.Eq.{bytes_eq-Decides}
@@ -100,6 +100,17 @@ due_of_key w k (t ∷ ts) d e = of (int_le t w) e
 pub candidate_own : (w : ℤ) (n : ℕ) (k : Key) (s : KeyState) (d : Due) → candidate w n k s ≡ Some d → IsOwn w n k s.times d
 candidate_own w zero k s d e = absurd (cc)
 candidate_own w (suc n) k s d e = record { key = due_of_key w k s.times d e; some_left = omega arith; due = e }
+
+pub candidate_is : (w : ℤ) (n : ℕ) (k : Key) (s : KeyState) (d : Due) → 0 < n → due_of w k s.times ≡ Some d → candidate w n k s ≡ Some d
+candidate_is w zero k s d some e = absurd (omega arith)
+candidate_is w (suc n) k s d some e = e
+
+-- a key that has one firing less, and the others
+pub one_less_own : (more : Key → ℕ) (k : Key) → one_less more k k ≡ more k - 1
+one_less_own more k = cond-true (bytes_eq k k) (more k - 1) (more k) (same_key k)
+
+pub one_less_other : (more : Key → ℕ) (k q : Key) → bytes_eq k q ≡ false → one_less more k q ≡ more q
+one_less_other more k q h = cond-false (bytes_eq k q) (more q - 1) (more q) h
 
 same_some : {a b : Due} → Some a ≡ Some b → a ≡ b
 same_some e = cc

@@ -146,9 +146,9 @@ fire_all_of p zero k more s enough known = none_left p k more s enough known
 fire_all_of p (suc n) k more s enough known = fire_step p n k more s enough known (λ less t. fire_all_of p n k less t) (next_due s.wm s.keys more s.map) refl
 
 -- the watermark and the keys stay
-record IsSameBeside (s t : Plain) : Type 0 where
-  wm : s.wm ≡ t.wm
-  keys : s.keys ≡ t.keys
+pub record IsSameBeside (s t : Plain) : Type 0 where
+  pub wm : s.wm ≡ t.wm
+  pub keys : s.keys ≡ t.keys
 
 fire_next_beside : (p : Program) (go : (Key → ℕ) → Plain → Plain) → ((more : Key → ℕ) (s : Plain) → IsSameBeside (go more s) s)
     → (o : Option Due) (more : Key → ℕ) (s : Plain) → IsSameBeside (fire_next p go o more s) s
@@ -157,7 +157,7 @@ fire_next_beside p go goes (Some d) more s =
     let same : IsSameBeside (go (one_less more d.key) (fire p d s)) (fire p d s) = goes (one_less more d.key) (fire p d s) in
     record { wm = same.wm; keys = same.keys }
 
-fire_all_beside : (p : Program) (fuel : ℕ) (more : Key → ℕ) (s : Plain) → IsSameBeside (fire_all p fuel more s) s
+pub fire_all_beside : (p : Program) (fuel : ℕ) (more : Key → ℕ) (s : Plain) → IsSameBeside (fire_all p fuel more s) s
 fire_all_beside p zero more s = record { wm = refl; keys = refl }
 fire_all_beside p (suc n) more s = fire_next_beside p (fire_all p n) (fire_all_beside p n) (next_due s.wm s.keys more s.map) more s
 
@@ -196,7 +196,7 @@ has_placed k j x xs ys go e Equal h = has_level k j x xs (exact_bytes j x h) e
 has_placed k j x xs ys go e Greater h = has_later k j x xs ys go e
 
 -- a key put among the keys stands there, and so do those that stood there
-has_inserted : (k j : Key) (ks : List Key) → (k ≡ j) ⊎ (list_any (bytes_eq k) ks ≡ true) → list_any (bytes_eq k) (insert_key key_cmp ks j) ≡ true
+pub has_inserted : (k j : Key) (ks : List Key) → (k ≡ j) ⊎ (list_any (bytes_eq k) ks ≡ true) → list_any (bytes_eq k) (insert_key key_cmp ks j) ≡ true
 has_inserted k j [] e = has_front k j [] e
 has_inserted k j (x ∷ xs) e = has_placed k j x xs (insert_key key_cmp xs j) (has_inserted k j xs) e (key_cmp j x) refl
 
@@ -222,7 +222,7 @@ covered_if : (b : Bool) (s t : Plain) → AreCovered s.keys s.map → AreCovered
 covered_if true s t c d = c
 covered_if false s t c d = d
 
-step_covered : (m : ℕ) (p : Program) (e : Event) (s : Plain) → AreCovered s.keys s.map → AreCovered (plain_step m p e s).keys (plain_step m p e s).map
+pub step_covered : (m : ℕ) (p : Program) (e : Event) (s : Plain) → AreCovered s.keys s.map → AreCovered (plain_step m p e s).keys (plain_step m p e s).map
 step_covered m p (Row j time values) s c =
     covered_put (insert_key key_cmp s.keys j) s.map j (state_after (s.map j) (row_run p s.wm (s.map j) time values)) (has_inserted j j s.keys (inl refl)) (covered_inserted s.keys s.map j c)
 step_covered m p (Mark w) s c =

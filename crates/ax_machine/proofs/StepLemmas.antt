@@ -3,7 +3,7 @@ use Rattle.std.proofs.Common.{◌≡◌, ℕ, zero, suc, ◌*◌, ℤ, int_lt, L
 use Rattle.ax_text.specs.Run.{World}
 use Rattle.ax_text.specs.KeyStates.{KeyState}
 use Rattle.ax_text.specs.Programs.{Program}
-use Rattle.ax_machine.specs.Entries.{Key, Marker, Watermark, Entry, says}
+use Rattle.ax_machine.specs.Entries.{Key, Marker, Watermark, Entry, says, entry_text, text_of}
 use Rattle.ax_machine.specs.Entries as entry
 use Rattle.ax_machine.specs.Events.{Event, Row, Mark, Barrier}
 use Rattle.ax_machine.specs.Firings.{Due, most_firings, next_due, one_less}
@@ -20,7 +20,7 @@ does_behind es k state w s = with_entries refl refl refl (append_assoc es s.entr
 writes_behind : (es : List Entry) (m : Marker) (s : Plain) → writes m (behind es s) ≡ behind es (writes m s)
 writes_behind es m s = with_entries refl refl refl (append_assoc es s.entries (entry.Mark m ∷ []))
 
-fire_behind : (es : List Entry) (p : Program) (d : Due) (s : Plain) → fire p d (behind es s) ≡ behind es (fire p d s)
+pub fire_behind : (es : List Entry) (p : Program) (d : Due) (s : Plain) → fire p d (behind es s) ≡ behind es (fire p d s)
 fire_behind es p d s = does_behind es d.key (without_least (s.map d.key)) (firing_run p s.wm (s.map d.key) d.time) s
 
 fire_next_behind : (es : List Entry) (p : Program) (go : (Key → ℕ) → Plain → Plain) → ((more : Key → ℕ) (s : Plain) → go more (behind es s) ≡ behind es (go more s))
@@ -31,6 +31,16 @@ fire_next_behind es p go goes (Some d) more s = ap (go (one_less more d.key)) (f
 pub fire_all_behind : (es : List Entry) (p : Program) (fuel : ℕ) (more : Key → ℕ) (s : Plain) → fire_all p fuel more (behind es s) ≡ behind es (fire_all p fuel more s)
 fire_all_behind es p zero more s = refl
 fire_all_behind es p (suc n) more s = fire_next_behind es p (fire_all p n) (fire_all_behind es p n) (next_due s.wm s.keys more s.map) more s
+
+pub silent_behind : (s : Plain) → s ≡ behind s.entries (silent s)
+silent_behind s = with_entries refl refl refl (sym (append-nil s.entries))
+
+-- what a firing, and all of them, write
+pub fire_writes : (p : Program) (d : Due) (s : Plain) → fire p d s ≡ behind s.entries (fire p d (silent s))
+fire_writes p d s = ap (fire p d) (silent_behind s) ∙ fire_behind s.entries p d (silent s)
+
+pub fire_all_writes : (p : Program) (fuel : ℕ) (more : Key → ℕ) (s : Plain) → fire_all p fuel more s ≡ behind s.entries (fire_all p fuel more (silent s))
+fire_all_writes p fuel more s = ap (fire_all p fuel more) (silent_behind s) ∙ fire_all_behind s.entries p fuel more (silent s)
 
 watermark_if : (es : List Entry) (b : Bool) (x y s : Plain) → x ≡ behind es y → cond b x (behind es s) ≡ behind es (cond b y s)
 watermark_if es true x y s e = e
@@ -53,9 +63,6 @@ pub steps_further : (m : ℕ) (p : Program) (events : List Event) (es : List Ent
 steps_further m p [] es s = refl
 steps_further m p (e ∷ events) es s = ap (plain_steps m p events) (step_further m p e es s) ∙ steps_further m p events es (plain_step m p e s)
 
-pub silent_behind : (s : Plain) → s ≡ behind s.entries (silent s)
-silent_behind s = with_entries refl refl refl (sym (append-nil s.entries))
-
 pub step_behind : (m : ℕ) (p : Program) (e : Event) (s : Plain) → plain_step m p e s ≡ behind s.entries (plain_step m p e (silent s))
 step_behind m p e s = ap (plain_step m p e) (silent_behind s) ∙ step_further m p e s.entries (silent s)
 
@@ -77,3 +84,8 @@ pub lawful_for_more : (m : ℕ) (serial : Bool) (p : Program) (xs ys : List Even
 lawful_for_more m serial p xs ys written h =
     let So : List Entry → Type 0 = LawfulSoFar serial written in
     subst So (sym (sync_longer m p xs ys)) (lawful_so_far_longer serial written (sync m p xs).entries (plain_steps m p ys (silent (sync m p xs))).entries h)
+
+-- the text of entries, and then of further ones
+pub text_of-append : (xs ys : List Entry) → text_of (xs ++ ys) ≡ text_of xs ++ text_of ys
+text_of-append [] ys = refl
+text_of-append (e ∷ xs) ys = ap (λ (t : List ℕ). entry_text e ++ t) (text_of-append xs ys) ∙ sym (append_assoc (entry_text e) (text_of xs) (text_of ys))
