@@ -19,7 +19,9 @@ pub mod write;
 pub use event::{Event, EventFault, is_skipped, read_event};
 pub use line::{OutLine, SnapLine};
 pub use read::read_out_line;
-pub use write::{put_event, put_out, put_out_line, put_watermark};
+pub use write::{
+    put_end, put_event, put_head, put_out, put_out_line, put_timer, put_value, put_watermark,
+};
 
 #[cfg(test)]
 mod tests;

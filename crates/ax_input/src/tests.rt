@@ -2,7 +2,9 @@
 use crate::event::{Event, EventFault, is_skipped, read_event};
 use crate::line::{OutLine, SnapLine};
 use crate::read::read_out_line;
-use crate::write::{put_event, put_out, put_out_line, put_watermark};
+use crate::write::{
+    put_end, put_event, put_head, put_out, put_out_line, put_timer, put_value, put_watermark,
+};
 use ax_base::{Bytes, Nums};
 use ax_keys::Key;
 use std::alloc::Global;
@@ -172,6 +174,11 @@ fn lines_that_are_built(rt: HostRuntime) -> Result<(), Fail> {
     put_out_line(rt.alloc(), &mut out, &OutLine::Mark { time: 3 })?;
     put_watermark(rt.alloc(), &mut out, -3)?;
     put_out(rt.alloc(), &mut out, &key, &[5, -5])?;
+    put_head(rt.alloc(), &mut out, 1, -1)?;
+    let state = Bytes::from_slice(rt.alloc(), b"n")?;
+    put_value(rt.alloc(), &mut out, &key, &state, -2)?;
+    put_timer(rt.alloc(), &mut out, &key, 7)?;
+    put_end(rt.alloc(), &mut out, 1, 2)?;
     let line = SnapLine::End { id: 1, count: 11 };
     put_out_line(rt.alloc(), &mut out, &OutLine::Snap { line })?;
     let values = Nums::from_slice(rt.alloc(), &[5])?;
@@ -183,7 +190,7 @@ fn lines_that_are_built(rt: HostRuntime) -> Result<(), Fail> {
     put_event(rt.alloc(), &mut out, &row)?;
     assert_eq!(rt;
         out.as_slice(),
-        b"w 3\nw -3\no a 5 -5\ne 1 11\nr a 1 5\n".as_slice()
+        b"w 3\nw -3\no a 5 -5\ns 1 -1\nc a n -2\nt a 7\ne 1 2\ne 1 11\nr a 1 5\n".as_slice()
     );
     Ok(())
 }

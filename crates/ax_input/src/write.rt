@@ -3,7 +3,7 @@ ghost use Rattle.std.specs.Prelude.{◌≡◌, ◌++◌, ◌∷◌, [], map, OnO
 ghost use Rattle.std.specs.Fmt.{signed_decimal, decimal};
 ghost use Rattle.ax_machine.specs.Entries.{Out as OutEntry, Mark as MarkEntry, Watermark, entry_text};
 ghost use Rattle.ax_input.specs.Events.{event_text};
-ghost use Rattle.ax_machine.specs.OutLines.{spelled, Out, Mark, behind_spaces};
+ghost use Rattle.ax_machine.specs.OutLines.{spelled, Out, Mark, Head, Value, Item, Entry, Timer, End, behind_spaces};
 ghost use Rattle.ax_input.specs.Seen.{seen_event, seen_snap, seen_line};
 
 use crate::draft::Draft;
@@ -83,45 +83,93 @@ fn put_place(draft: &mut Draft, letter: u8, key: &Key, state: &Bytes) -> Result<
     put_word(draft, state.as_slice())
 }
 
-// Writes the line of a block, but for its line feed.
+// Writes the head of a block.
+fn draft_head(draft: &mut Draft, id: i64, wm: i64) -> Result<(), NoMemory>
+    ensures front { draft.new.front ≡ draft.old.front }
+    ensures line { OnOk result (draft.new.line ≡ draft.old.line ++ spelled (Head id wm)) }
+{
+    draft.put(b"s")?;
+    put_number(draft, id)?;
+    put_number(draft, wm)?;
+    draft.put(b"\n")
+}
+
+// Writes the line of a value.
+fn draft_value(draft: &mut Draft, key: &Key, state: &Bytes, number: i64) -> Result<(), NoMemory>
+    ensures front { draft.new.front ≡ draft.old.front }
+    ensures line { OnOk result (draft.new.line ≡ draft.old.line ++ spelled (Value key.now state.now number)) }
+{
+    put_place(draft, b'c', key, state)?;
+    put_number(draft, number)?;
+    draft.put(b"\n")
+}
+
+// Writes the line of an item of a list.
+fn draft_item(draft: &mut Draft, key: &Key, state: &Bytes, number: i64) -> Result<(), NoMemory>
+    ensures front { draft.new.front ≡ draft.old.front }
+    ensures line { OnOk result (draft.new.line ≡ draft.old.line ++ spelled (Item key.now state.now number)) }
+{
+    put_place(draft, b'l', key, state)?;
+    put_number(draft, number)?;
+    draft.put(b"\n")
+}
+
+// Writes the line of an entry of a map.
+fn draft_entry(
+    draft: &mut Draft,
+    key: &Key,
+    state: &Bytes,
+    at: i64,
+    number: i64,
+) -> Result<(), NoMemory>
+    ensures front { draft.new.front ≡ draft.old.front }
+    ensures line { OnOk result (draft.new.line ≡ draft.old.line ++ spelled (Entry key.now state.now at number)) }
+{
+    put_place(draft, b'm', key, state)?;
+    put_number(draft, at)?;
+    put_number(draft, number)?;
+    draft.put(b"\n")
+}
+
+// Writes the line of a timer.
+fn draft_timer(draft: &mut Draft, key: &Key, time: i64) -> Result<(), NoMemory>
+    ensures front { draft.new.front ≡ draft.old.front }
+    ensures line { OnOk result (draft.new.line ≡ draft.old.line ++ spelled (Timer key.now time)) }
+{
+    draft.put(b"t")?;
+    put_word(draft, key.as_bytes())?;
+    put_number(draft, time)?;
+    draft.put(b"\n")
+}
+
+// Writes the end of a block.
+fn draft_end(draft: &mut Draft, id: i64, count: u64) -> Result<(), NoMemory>
+    ensures front { draft.new.front ≡ draft.old.front }
+    ensures line { OnOk result (draft.new.line ≡ draft.old.line ++ spelled (End id count)) }
+{
+    draft.put(b"e")?;
+    put_number(draft, id)?;
+    put_count(draft, count)?;
+    draft.put(b"\n")
+}
+
+// Writes the line of a block.
 fn draft_snap_line(draft: &mut Draft, line: &SnapLine) -> Result<(), NoMemory>
     ensures front { draft.new.front ≡ draft.old.front }
-    ensures line { OnOk result (draft.new.line ++ 10 ∷ [] ≡ draft.old.line ++ spelled (seen_snap line.now)) }
+    ensures line { OnOk result (draft.new.line ≡ draft.old.line ++ spelled (seen_snap line.now)) }
 {
     match line {
-        SnapLine::Head { id, wm } => {
-            draft.put(b"s")?;
-            put_number(draft, *id)?;
-            put_number(draft, *wm)
-        }
-        SnapLine::Value { key, state, number } => {
-            put_place(draft, b'c', key, state)?;
-            put_number(draft, *number)
-        }
-        SnapLine::Item { key, state, number } => {
-            put_place(draft, b'l', key, state)?;
-            put_number(draft, *number)
-        }
+        SnapLine::Head { id, wm } => draft_head(draft, *id, *wm),
+        SnapLine::Value { key, state, number } => draft_value(draft, key, state, *number),
+        SnapLine::Item { key, state, number } => draft_item(draft, key, state, *number),
         SnapLine::Entry {
             key,
             state,
             at,
             number,
-        } => {
-            put_place(draft, b'm', key, state)?;
-            put_number(draft, *at)?;
-            put_number(draft, *number)
-        }
-        SnapLine::Timer { key, time } => {
-            draft.put(b"t")?;
-            put_word(draft, key.as_bytes())?;
-            put_number(draft, *time)
-        }
-        SnapLine::End { id, count } => {
-            draft.put(b"e")?;
-            put_number(draft, *id)?;
-            put_count(draft, *count)
-        }
+        } => draft_entry(draft, key, state, *at, *number),
+        SnapLine::Timer { key, time } => draft_timer(draft, key, *time),
+        SnapLine::End { id, count } => draft_end(draft, *id, *count),
     }
 }
 
@@ -133,10 +181,7 @@ fn draft_line(draft: &mut Draft, line: &OutLine) -> Result<(), NoMemory>
     match line {
         OutLine::Out { key, values } => draft_out(draft, key, values.as_slice()),
         OutLine::Mark { time } => draft_watermark(draft, *time),
-        OutLine::Snap { line } => {
-            draft_snap_line(draft, line)?;
-            draft.put(b"\n")
-        }
+        OutLine::Snap { line } => draft_snap_line(draft, line),
     }
 }
 
@@ -192,6 +237,52 @@ pub fn put_watermark(alloc: Global, out: &mut Bytes, time: i64) -> Result<(), No
 {
     let mut draft = Draft::behind(alloc, out);
     let put = draft_watermark(&mut draft, time);
+    draft.end(out, put)
+}
+
+/// Appends the head of the block of a barrier, with its line feed. After `NoMemory` the bytes are as before.
+pub fn put_head(alloc: Global, out: &mut Bytes, id: i64, wm: i64) -> Result<(), NoMemory>
+    ensures ok { OnOk result (out.new ≡ out.old ++ spelled (Head id wm)) }
+    ensures err { OnErr result (out.new ≡ out.old) }
+{
+    let mut draft = Draft::behind(alloc, out);
+    let put = draft_head(&mut draft, id, wm);
+    draft.end(out, put)
+}
+
+/// Appends the line of a value state, with its line feed. After `NoMemory` the bytes are as before.
+pub fn put_value(
+    alloc: Global,
+    out: &mut Bytes,
+    key: &Key,
+    state: &Bytes,
+    number: i64,
+) -> Result<(), NoMemory>
+    ensures ok { OnOk result (out.new ≡ out.old ++ spelled (Value key.now state.now number)) }
+    ensures err { OnErr result (out.new ≡ out.old) }
+{
+    let mut draft = Draft::behind(alloc, out);
+    let put = draft_value(&mut draft, key, state, number);
+    draft.end(out, put)
+}
+
+/// Appends the line of a timer, with its line feed. After `NoMemory` the bytes are as before.
+pub fn put_timer(alloc: Global, out: &mut Bytes, key: &Key, time: i64) -> Result<(), NoMemory>
+    ensures ok { OnOk result (out.new ≡ out.old ++ spelled (Timer key.now time)) }
+    ensures err { OnErr result (out.new ≡ out.old) }
+{
+    let mut draft = Draft::behind(alloc, out);
+    let put = draft_timer(&mut draft, key, time);
+    draft.end(out, put)
+}
+
+/// Appends the end of a block, with the number of lines between head and end, with its line feed. After `NoMemory` the bytes are as before.
+pub fn put_end(alloc: Global, out: &mut Bytes, id: i64, count: u64) -> Result<(), NoMemory>
+    ensures ok { OnOk result (out.new ≡ out.old ++ spelled (End id count)) }
+    ensures err { OnErr result (out.new ≡ out.old) }
+{
+    let mut draft = Draft::behind(alloc, out);
+    let put = draft_end(&mut draft, id, count);
     draft.end(out, put)
 }
 
