@@ -2,7 +2,6 @@
 use Rattle.std.proofs.Common.{◌≡◌, ◌∙◌, ℕ, ◌+◌, ◌-◌, List, [], ◌∷◌, map, refl, sym, ap, subst, Bool, true, false, ◌&&◌, nat_lt, Option, Some, None, is_some, if◌then◌else◌}
 use Rattle.std.proofs.lemmas.Bool.{and_parts, and_from, eqb-true, true≢false, false≢true}
 use lib.Chars.{codes}
-use Rattle.ax_base.specs.Numbers.{number_of}
 use Rattle.ax_text.specs.declared.vocabulary.Op.{Op}
 use Rattle.ax_syntax.specs.Words.{Word, same_word, sign_of, is_operand, is_name, keyword_of}
 use Rattle.ax_syntax.specs.Shapes.{goes_on, is_expr}

@@ -1,6 +1,6 @@
 -- Reading, one line on.
-use Rattle.std.proofs.Common.{◌≡◌, ◌∙◌, ℕ, ◌+◌, ◌<◌, ◌≤◌, List, [], ◌∷◌, ◌++◌, Option, Some, None, length, get_or, take, drop, refl, sym, ap, append_assoc, subst, Err}
-use Rattle.std.proofs.lemmas.List.{at_drop_more, take_more, drop_all, append-nil}
+use Rattle.std.proofs.Common.{◌≡◌, ◌∙◌, ℕ, ◌+◌, ◌<◌, ◌≤◌, List, [], ◌∷◌, ◌++◌, Option, Some, None, length, get_or, take, drop, refl, sym, ap, subst, Err}
+use Rattle.std.proofs.lemmas.List.{at_drop_more, take_more, drop_all}
 use Rattle.ax_base.specs.declared.lines.Line.{Line}
 use Rattle.ax_syntax.specs.Shapes.{Shape}
 use Rattle.ax_lang.specs.declared.tables.Tables.{Tables}
@@ -8,19 +8,20 @@ use Rattle.ax_lang.specs.declared.reader.SectionEnd.{SectionEnd}
 use Rattle.ax_lang.specs.declared.reader.ProgFault.{ProgFault}
 use Rattle.ax_lang.specs.declared.reader.ProgFault.TheVariants as fault
 use Rattle.ax_lang.specs.Tables.{start}
-use Rattle.ax_lang.specs.Rows.{Row}
+use Rattle.ax_lang.specs.Rows.{HandlerRows, no_rows, joined}
+use Rattle.ax_lang.proofs.RowLemmas.{joined_none, joined_assoc}
 use Rattle.ax_lang.specs.Programs.{Reading, Faulty, shape_in, tables_from, tables_of, rows_from, rows_of, after_in, fault_in, rows_in, or_fault, read_from, program_of, ended, TakesLine, ReadsProgram}
 
 tables_last : (ls : List Line) (t : Tables) (l : Line) → tables_from t (ls ++ l ∷ []) ≡ after_in (tables_from t ls) (shape_in l)
 tables_last [] t l = refl
 tables_last (k ∷ ls) t l = tables_last ls (after_in t (shape_in k)) l
 
-rows_last : (ls : List Line) (t : Tables) (l : Line) → rows_from t (ls ++ l ∷ []) ≡ rows_from t ls ++ rows_in (tables_from t ls) (shape_in l)
-rows_last [] t l = append-nil (rows_in t (shape_in l))
+rows_last : (ls : List Line) (t : Tables) (l : Line) → rows_from t (ls ++ l ∷ []) ≡ joined (rows_from t ls) (rows_in (tables_from t ls) (shape_in l))
+rows_last [] t l = joined_none (rows_in t (shape_in l))
 rows_last (k ∷ ls) t l =
-    let here : List Row = rows_in t (shape_in k) in
+    let here : HandlerRows = rows_in t (shape_in k) in
     let u : Tables = after_in t (shape_in k) in
-    ap (λ (rs : List Row). here ++ rs) (rows_last ls u l) ∙ sym (append_assoc here (rows_from u ls) (rows_in (tables_from u ls) (shape_in l)))
+    ap (λ (rs : HandlerRows). joined here rs) (rows_last ls u l) ∙ sym (joined_assoc here (rows_from u ls) (rows_in (tables_from u ls) (shape_in l)))
 
 -- the tables behind one more line
 pub tables_more : (ls : List Line) (i : ℕ) (d : Line) → i < length ls → tables_of (take (i + 1) ls) ≡ after_in (tables_of (take i ls)) (shape_in (get_or ls i d))
@@ -28,7 +29,7 @@ unfolding tables_of
 tables_more ls i d h = ap (tables_from start) (take_more ls i d h) ∙ tables_last (take i ls) start (get_or ls i d)
 
 -- the rows of one more line
-pub rows_more : (ls : List Line) (i : ℕ) (d : Line) → i < length ls → rows_of (take (i + 1) ls) ≡ rows_of (take i ls) ++ rows_in (tables_of (take i ls)) (shape_in (get_or ls i d))
+pub rows_more : (ls : List Line) (i : ℕ) (d : Line) → i < length ls → rows_of (take (i + 1) ls) ≡ joined (rows_of (take i ls)) (rows_in (tables_of (take i ls)) (shape_in (get_or ls i d)))
 unfolding tables_of rows_of
 rows_more ls i d h = ap (rows_from start) (take_more ls i d h) ∙ rows_last (take i ls) start (get_or ls i d)
 
@@ -74,20 +75,20 @@ pub tables_start : tables_of [] ≡ start
 unfolding tables_of
 tables_start = refl
 
-pub rows_start : rows_of [] ≡ []
+pub rows_start : rows_of [] ≡ no_rows
 unfolding rows_of
 rows_start = refl
 
 -- the lines are at their end
-pub read_done : (ls : List Line) (i : ℕ) (end : SectionEnd) (t : Tables) (rows : List Row) → length ls ≤ i → t ≡ tables_of (take i ls) → rows ≡ rows_of (take i ls)
+pub read_done : (ls : List Line) (i : ℕ) (end : SectionEnd) (t : Tables) (rows : HandlerRows) → length ls ≤ i → t ≡ tables_of (take i ls) → rows ≡ rows_of (take i ls)
     → read_from (take i ls) (drop i ls) end ≡ ended t rows end
 read_done ls i end t rows h e f =
     ap (λ (rest : List Line). read_from (take i ls) rest end) (drop_all i ls h)
     ∙ (read_end (take i ls) end
-    ∙ (ap (λ (u : Tables). ended u (rows_of (take i ls)) end) (sym e) ∙ ap (λ (rs : List Row). ended t rs end) (sym f)))
+    ∙ (ap (λ (u : Tables). ended u (rows_of (take i ls)) end) (sym e) ∙ ap (λ (rs : HandlerRows). ended t rs end) (sym f)))
 
 -- a line's fault is the program's
-pub fault_told : (ls : List Line) (i : ℕ) (l : Line) (end : SectionEnd) (t t' : Tables) (before now : List Row) (whole : Reading) (e : ProgFault) → i < length ls → t ≡ tables_of (take i ls) → l ≡ get_or ls i l
+pub fault_told : (ls : List Line) (i : ℕ) (l : Line) (end : SectionEnd) (t t' : Tables) (before now : HandlerRows) (whole : Reading) (e : ProgFault) → i < length ls → t ≡ tables_of (take i ls) → l ≡ get_or ls i l
     → read_from (take i ls) (drop i ls) end ≡ whole → TakesLine l t t' before now (Err e) → ReadsProgram whole (Err e)
 fault_told ls i l end t t' before now whole (fault.At line kind) h q is w told =
     sym w ∙ (line_faulty ls i l end t kind h q (subst (λ (k : Line). fault_in t (shape_in k) ≡ Some kind) is told.1)

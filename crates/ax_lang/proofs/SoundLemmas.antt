@@ -1,5 +1,5 @@
 -- Lines without fault keep the tables and the rows sound.
-use Rattle.std.proofs.Common.{◌≡◌, ◌∙◌, ℕ, ◌+◌, ◌≤◌, ◌<◌, List, [], ◌∷◌, ◌++◌, map, length, length-append, refl, sym, ap, arith, Bool, true, false, not, ◌&&◌, ◌||◌, nat_le, nat_lt, ◌==◌, Option, Some, None, if◌then◌else◌, is_some}
+use Rattle.std.proofs.Common.{◌≡◌, ◌∙◌, ℕ, ◌+◌, ◌≤◌, ◌<◌, List, [], ◌∷◌, ◌++◌, map, length, length-append, refl, sym, ap, subst, arith, max, Bool, true, false, not, ◌&&◌, ◌||◌, nat_le, nat_lt, ◌==◌, Option, Some, None, if◌then◌else◌, is_some}
 use Rattle.std.proofs.lemmas.Option.{none-some}
 use Rattle.std.specs.List.{list_all, list_any}
 use Rattle.std.proofs.lemmas.Bool.{and_parts, and_from, leb-false, lt-ltb, ltb-true, eq-eqb, true≢false, false≢true}
@@ -16,12 +16,13 @@ use Rattle.ax_syntax.specs.Words.{Word, same_word}
 use Rattle.ax_syntax.specs.Shapes.{Shape}
 use Rattle.ax_syntax.specs.Shapes as shape
 use Rattle.ax_lang.specs.declared.tables.Tables.{Tables}
-use Rattle.ax_lang.specs.Tables.{mem, state_names, is_state, is_new_local, is_statement, is_built, may_stand, is_too_many, has_long_expr, is_twice, has_unknown, has_wrong_kind, fault_by, with_word, after, start}
-use Rattle.ax_lang.specs.Rows.{Row, ActRow, AskRow, index_of, place_or, place_in, row_of}
-use Rattle.ax_lang.specs.Programs.{row_list, fault_in, after_in, rows_in}
+use Rattle.ax_lang.specs.Tables.{mem, state_names, is_state, is_new_local, is_statement, is_built, may_stand, is_too_many, has_long_expr, is_twice, has_unknown, has_wrong_kind, fault_by, with_word, most_locals, begun, after, start}
+use Rattle.ax_lang.specs.Rows.{Row, ActRow, AskRow, HandlerRows, no_rows, rows_at, joined, rows_by, index_of, place_or, place_in, row_of}
+use Rattle.ax_lang.specs.Programs.{fault_in, after_in, rows_in}
 use Rattle.ax_lang.specs.Steps.{row_in, stmt_fits}
 use Rattle.ax_lang.specs.declared.step.Stmt.{Stmt}
 use Rattle.ax_lang.specs.declared.step.Stmt.TheVariants as code
+use Rattle.ax_lang.proofs.RowLemmas.{none_added}
 use Rattle.ax_lang.specs.Sound.{row_fits, SmallInput, Sound}
 
 if_none : (b : Bool) (k : ℕ) (r : Option ℕ) → (if b then Some k else r) ≡ None → (b ≡ false) × (r ≡ None)
@@ -132,93 +133,148 @@ rows_fit_more n m ks (r ∷ rs) h f =
 all_with : (p : Row → Bool) (rows : List Row) (r : Row) → list_all p rows ≡ true → p r ≡ true → list_all p (rows ++ r ∷ []) ≡ true
 all_with p rows r h g = list_all-append p rows (r ∷ []) ∙ and_from (list_all p rows) (list_all p (r ∷ [])) h (and_from (p r) true g refl)
 
-sound_input : (t : Tables) (rows : List Row) (n : ℕ) → Sound t rows → n ≤ 16 → Sound (after (shape.Input n) t) (rows ++ [])
-unfolding after
-sound_input t rows n h i =
-    let e : rows ++ [] ≡ rows = append-nil rows in
-    record { fields = i; states = h.states; locals = h.locals; inside = h.inside; before = λ q. e ∙ h.before q; fit = ap (list_all (row_fits (length t.locals) (kinds t.states))) e ∙ h.fit }
+-- a row more in its handler
+row_added : (p : Row → Bool) (timer : Bool) (rows : List Row) (r : Row) → list_all p rows ≡ true → p r ≡ true → list_all p (rows ++ (rows_at timer (r ∷ [])).row) ≡ true
+row_added p true rows r h g = ap (list_all p) (append-nil rows) ∙ h
+row_added p false rows r h g = all_with p rows r h g
 
-sound_state : (t : Tables) (rows : List Row) (name : Word) (kind : KindWord) → Sound t rows → NoFault t (shape.State name kind) → Sound (after (shape.State name kind) t) (rows ++ [])
-unfolding after is_too_many may_stand
+timer_added : (p : Row → Bool) (timer : Bool) (rows : List Row) (r : Row) → list_all p rows ≡ true → p r ≡ true → list_all p (rows ++ (rows_at timer (r ∷ [])).timer) ≡ true
+timer_added p true rows r h g = all_with p rows r h g
+timer_added p false rows r h g = ap (list_all p) (append-nil rows) ∙ h
+
+-- a line that adds no row
+same_rows : (t : Tables) (rows : HandlerRows) → Sound t rows → Sound t (joined rows (rows_at t.timer []))
+same_rows t rows h = subst (Sound t) (sym (none_added t.timer rows)) h
+
+sound_input : (t : Tables) (rows : HandlerRows) (n : ℕ) → Sound t rows → n ≤ 16 → Sound (after (shape.Input n) t) rows
+unfolding after most_locals
+sound_input t rows n h i = record { fields = i; states = h.states; locals = h.locals; inside = h.inside; before = h.before; row = h.row; timer = h.timer }
+
+sound_state : (t : Tables) (rows : HandlerRows) (name : Word) (kind : KindWord) → Sound t rows → NoFault t (shape.State name kind) → Sound (after (shape.State name kind) t) rows
+unfolding after is_too_many may_stand most_locals
 sound_state t rows name kind h f =
     let before : t.row ≡ false = not_true t.row (and_parts (not t.inside && is_some t.fields) (not t.row) f.stands).1 in
-    let e : rows ++ [] ≡ [] = append-nil rows ∙ h.before before in
+    let e : rows ≡ no_rows = h.before before in
     let low : length t.states < 64 = leb-false 64 (length t.states) f.few in
     let ds = (after (shape.State name kind) t).states in
-    record { fields = h.fields; states = (let n : length ds ≡ length t.states + 1 = length-append t.states _ in omega arith); locals = h.locals; inside = h.inside; before = λ q. e; fit = ap (list_all (row_fits (length t.locals) (kinds ds))) e }
+    let p = row_fits (max t.earlier (length t.locals)) (kinds ds) in
+    record {
+      fields = h.fields;
+      states = (let n : length ds ≡ length t.states + 1 = length-append t.states _ in omega arith);
+      locals = h.locals;
+      inside = h.inside;
+      before = h.before;
+      row = ap (λ (rs : HandlerRows). list_all p rs.row) e;
+      timer = ap (λ (rs : HandlerRows). list_all p rs.timer) e;
+    }
 
-sound_row : (t : Tables) (rows : List Row) → Sound t rows → NoFault t shape.OnRow → Sound (after shape.OnRow t) (rows ++ [])
-unfolding after is_twice
-sound_row t rows h f =
-    let e : rows ++ [] ≡ [] = append-nil rows ∙ h.before f.once in
-    record { fields = h.fields; states = h.states; locals = omega arith; inside = λ q. refl; before = λ q. absurd (true≢false q); fit = ap (list_all (row_fits 0 (kinds t.states))) e }
+-- a handler has begun
+begun_fits : (t : Tables) (rows : List Row) → list_all (row_fits (most_locals t) (kinds t.states)) rows ≡ true → list_all (row_fits (most_locals (begun t)) (kinds t.states)) rows ≡ true
+unfolding most_locals
+begun_fits t rows h = let n : ℕ = max t.earlier (length t.locals) in rows_fit_more n (max n 0) (kinds t.states) rows (omega arith) h
 
-sound_end : (t : Tables) (rows : List Row) → Sound t rows → Sound (after shape.End t) (rows ++ [])
-unfolding after
-sound_end t rows h =
-    let e : rows ++ [] ≡ rows = append-nil rows in
-    record { fields = h.fields; states = h.states; locals = h.locals; inside = λ q. absurd (false≢true q); before = λ q. e ∙ h.before q; fit = ap (list_all (row_fits (length t.locals) (kinds t.states))) e ∙ h.fit }
+begun_few : (t : Tables) → most_locals t ≤ 256 → most_locals (begun t) ≤ 256
+unfolding most_locals
+begun_few t h = let n : ℕ = max t.earlier (length t.locals) in (let low : n ≤ 256 = h in omega arith)
 
-sound_get : (t : Tables) (rows : List Row) (name state : Word) (missing : List Word) → Sound t rows → NoFault t (shape.Get name state missing)
-    → Sound (after (shape.Get name state missing) t) (rows ++ row_list (row_of (after (shape.Get name state missing) t) (shape.Get name state missing)))
+sound_row : (t : Tables) (rows : HandlerRows) → Sound t rows → Sound (after shape.OnRow t) rows
+unfolding after most_locals
+sound_row t rows h = record {
+  fields = h.fields;
+  states = h.states;
+  locals = begun_few t h.locals;
+  inside = λ q. refl;
+  before = λ q. absurd (true≢false q);
+  row = begun_fits t rows.row h.row;
+  timer = begun_fits t rows.timer h.timer;
+}
+
+sound_timer : (t : Tables) (rows : HandlerRows) → Sound t rows → NoFault t shape.OnTimer → Sound (after shape.OnTimer t) rows
+unfolding after may_stand most_locals
+sound_timer t rows h f =
+    let row : t.row ≡ true = (and_parts (not t.inside) t.row f.stands).1 in
+    record {
+      fields = h.fields;
+      states = h.states;
+      locals = begun_few t h.locals;
+      inside = λ q. row;
+      before = λ q. absurd (true≢false (sym row ∙ q));
+      row = begun_fits t rows.row h.row;
+      timer = begun_fits t rows.timer h.timer;
+    }
+
+sound_end : (t : Tables) (rows : HandlerRows) → Sound t rows → Sound (after shape.End t) rows
+unfolding after most_locals
+sound_end t rows h = record { fields = h.fields; states = h.states; locals = h.locals; inside = λ q. absurd (false≢true q); before = h.before; row = h.row; timer = h.timer }
+
+-- a statement adds a row
+sound_more : (t : Tables) (rows : HandlerRows) (names : List Word) (n : ℕ) (r : Row) → Sound t rows → t.inside ≡ true → length t.locals ≤ length names → length names ≤ 256
+    → row_fits (max t.earlier (length names)) (kinds t.states) r ≡ true → Sound (record t { locals = names; statements = n }) (joined rows (rows_at t.timer (r ∷ [])))
+unfolding most_locals
+sound_more t rows names n r h inside low few fit =
+    let row : t.row ≡ true = h.inside inside in
+    let so_far : max t.earlier (length t.locals) ≤ 256 = h.locals in
+    let more : max t.earlier (length t.locals) ≤ max t.earlier (length names) = omega arith in
+    let p = row_fits (max t.earlier (length names)) (kinds t.states) in
+    record {
+      fields = h.fields;
+      states = h.states;
+      locals = omega arith;
+      inside = h.inside;
+      before = λ q. absurd (true≢false (sym row ∙ q));
+      row = row_added p t.timer rows.row r (rows_fit_more (max t.earlier (length t.locals)) (max t.earlier (length names)) (kinds t.states) rows.row more h.row) fit;
+      timer = timer_added p t.timer rows.timer r (rows_fit_more (max t.earlier (length t.locals)) (max t.earlier (length names)) (kinds t.states) rows.timer more h.timer) fit;
+    }
+
+few_locals : (t : Tables) → most_locals t ≤ 256 → length t.locals ≤ 256
+unfolding most_locals
+few_locals t h = let low : max t.earlier (length t.locals) ≤ 256 = h in omega arith
+
+sound_get : (t : Tables) (rows : HandlerRows) (name state : Word) (missing : List Word) → Sound t rows → NoFault t (shape.Get name state missing)
+    → Sound (after (shape.Get name state missing) t) (joined rows (rows_by (after (shape.Get name state missing) t) (shape.Get name state missing)))
 unfolding after row_of is_too_many may_stand has_wrong_kind
 sound_get t rows name state missing h f =
-    let row : t.row ≡ true = h.inside f.stands in
     let kinds_apart = or_false (is_state t name) (not (is_state t state)) (or_false (list_any (is_state t) missing) _ f.kind).1 in
     let room = (or_false (nat_le 10000 t.statements) _ (or_false _ (has_long_expr (shape.Get name state missing)) f.few).0).1 in
     let locals = with_word (Some name) t.locals in
     let here : place_in locals name < 0 + length locals = place_below 0 locals name (with_mem name t.locals) in
+    let low : place_in locals name < max t.earlier (length locals) = omega arith in
     let there = declared_fits t.states state (not_false (is_state t state) kinds_apart.1) in
-    let p = row_fits (length locals) (kinds t.states) in
-    record {
-      fields = h.fields;
-      states = h.states;
-      locals = with_few t name h.locals room kinds_apart.0;
-      inside = h.inside;
-      before = λ q. absurd (true≢false (sym row ∙ q));
-      fit = all_with p rows _ (rows_fit_more (length t.locals) (length locals) (kinds t.states) rows (with_grows name t.locals) h.fit)
-          (and_from (nat_lt (place_in locals name) (length locals)) _ (lt-ltb (place_in locals name) (length locals) (omega arith)) there);
-    }
+    sound_more t rows locals (t.statements + 1) _ h f.stands (with_grows name t.locals) (with_few t name (few_locals t h.locals) room kinds_apart.0)
+    (and_from (nat_lt (place_in locals name) (max t.earlier (length locals))) _ (lt-ltb (place_in locals name) (max t.earlier (length locals)) low) there)
 
-sound_put : (t : Tables) (rows : List Row) (state : Word) (values : List Word) → Sound t rows → NoFault t (shape.Put state values)
-    → Sound (after (shape.Put state values) t) (rows ++ row_list (row_of (after (shape.Put state values) t) (shape.Put state values)))
+sound_put : (t : Tables) (rows : HandlerRows) (state : Word) (values : List Word) → Sound t rows → NoFault t (shape.Put state values)
+    → Sound (after (shape.Put state values) t) (joined rows (rows_by (after (shape.Put state values) t) (shape.Put state values)))
 unfolding after row_of may_stand has_wrong_kind
 sound_put t rows state values h f =
-    let row : t.row ≡ true = h.inside f.stands in
     let there = declared_fits t.states state (not_false (is_state t state) (or_false (list_any (is_state t) values) (not (is_state t state)) f.kind).1) in
-    record {
-      fields = h.fields;
-      states = h.states;
-      locals = h.locals;
-      inside = h.inside;
-      before = λ q. absurd (true≢false (sym row ∙ q));
-      fit = all_with (row_fits (length t.locals) (kinds t.states)) rows _ h.fit there;
-    }
+    sound_more t rows t.locals (t.statements + 1) _ h f.stands (omega arith) (few_locals t h.locals) there
 
-sound_emit : (t : Tables) (rows : List Row) (values : List Word) → Sound t rows → NoFault t (shape.Emit values)
-    → Sound (after (shape.Emit values) t) (rows ++ row_list (row_of (after (shape.Emit values) t) (shape.Emit values)))
+sound_emit : (t : Tables) (rows : HandlerRows) (values : List Word) → Sound t rows → NoFault t (shape.Emit values)
+    → Sound (after (shape.Emit values) t) (joined rows (rows_by (after (shape.Emit values) t) (shape.Emit values)))
 unfolding after row_of may_stand
-sound_emit t rows values h f =
-    let row : t.row ≡ true = h.inside f.stands in
-    record {
-      fields = h.fields;
-      states = h.states;
-      locals = h.locals;
-      inside = h.inside;
-      before = λ q. absurd (true≢false (sym row ∙ q));
-      fit = all_with (row_fits (length t.locals) (kinds t.states)) rows _ h.fit refl;
-    }
+sound_emit t rows values h f = sound_more t rows t.locals (t.statements + 1) _ h f.stands (omega arith) (few_locals t h.locals) refl
 
-sound_shape : (t : Tables) (rows : List Row) (s : Shape) → Sound t rows → SmallInput (Some s) → NoFault t s → Sound (after s t) (rows ++ row_list (row_of (after s t) s))
+sound_set : (t : Tables) (rows : HandlerRows) (time : List Word) → Sound t rows → NoFault t (shape.Timer time)
+    → Sound (after (shape.Timer time) t) (joined rows (rows_by (after (shape.Timer time) t) (shape.Timer time)))
+unfolding after row_of may_stand
+sound_set t rows time h f = sound_more t rows t.locals (t.statements + 1) _ h f.stands (omega arith) (few_locals t h.locals) refl
+
+sound_unset : (t : Tables) (rows : HandlerRows) (time : List Word) → Sound t rows → NoFault t (shape.Untimer time)
+    → Sound (after (shape.Untimer time) t) (joined rows (rows_by (after (shape.Untimer time) t) (shape.Untimer time)))
+unfolding after row_of may_stand
+sound_unset t rows time h f = sound_more t rows t.locals (t.statements + 1) _ h f.stands (omega arith) (few_locals t h.locals) refl
+
+sound_shape : (t : Tables) (rows : HandlerRows) (s : Shape) → Sound t rows → SmallInput (Some s) → NoFault t s → Sound (after s t) (joined rows (rows_by (after s t) s))
 unfolding row_of is_built
-sound_shape t rows (shape.Input a) h i f = sound_input t rows a h i
-sound_shape t rows (shape.State a b) h i f = sound_state t rows a b h f
-sound_shape t rows shape.OnRow h i f = sound_row t rows h f
-sound_shape t rows shape.End h i f = sound_end t rows h
+sound_shape t rows (shape.Input a) h i f = same_rows (after (shape.Input a) t) rows (sound_input t rows a h i)
+sound_shape t rows (shape.State a b) h i f = same_rows (after (shape.State a b) t) rows (sound_state t rows a b h f)
+sound_shape t rows shape.OnRow h i f = same_rows (after shape.OnRow t) rows (sound_row t rows h)
+sound_shape t rows shape.End h i f = same_rows (after shape.End t) rows (sound_end t rows h)
 sound_shape t rows (shape.Get a b c) h i f = sound_get t rows a b c h f
 sound_shape t rows (shape.Put a b) h i f = sound_put t rows a b h f
 sound_shape t rows (shape.Emit a) h i f = sound_emit t rows a h f
-sound_shape t rows shape.OnTimer h i f = absurd (false≢true f.built)
+sound_shape t rows shape.OnTimer h i f = same_rows (after shape.OnTimer t) rows (sound_timer t rows h f)
 sound_shape t rows (shape.Let a b) h i f = absurd (false≢true f.built)
 sound_shape t rows (shape.GetAt a b c d) h i f = absurd (false≢true f.built)
 sound_shape t rows (shape.Has a b c) h i f = absurd (false≢true f.built)
@@ -232,11 +288,11 @@ sound_shape t rows (shape.Each a b) h i f = absurd (false≢true f.built)
 sound_shape t rows (shape.EachPair a b c) h i f = absurd (false≢true f.built)
 sound_shape t rows shape.Both h i f = absurd (false≢true f.built)
 sound_shape t rows shape.With h i f = absurd (false≢true f.built)
-sound_shape t rows (shape.Timer a) h i f = absurd (false≢true f.built)
-sound_shape t rows (shape.Untimer a) h i f = absurd (false≢true f.built)
+sound_shape t rows (shape.Timer a) h i f = sound_set t rows a h f
+sound_shape t rows (shape.Untimer a) h i f = sound_unset t rows a h f
 
 -- a line without fault
-sound_after : (t : Tables) (rows : List Row) (s : Shape) → Sound t rows → SmallInput (Some s) → fault_by t s ≡ None → Sound (after s t) (rows ++ row_list (row_of (after s t) s))
+sound_after : (t : Tables) (rows : HandlerRows) (s : Shape) → Sound t rows → SmallInput (Some s) → fault_by t s ≡ None → Sound (after s t) (joined rows (rows_by (after s t) s))
 sound_after t rows s h i f = sound_shape t rows s h i (no_fault t s f)
 
 few_in : (t : Tables) (s : Shape) → is_too_many t s ≡ false → is_statement s ≡ true → t.statements < 10000
@@ -262,8 +318,8 @@ few_in t (shape.Each a b) f h = absurd (false≢true h)
 few_in t (shape.EachPair a b c) f h = absurd (false≢true h)
 few_in t shape.Both f h = absurd (false≢true h)
 few_in t shape.With f h = absurd (false≢true h)
-few_in t (shape.Timer a) f h = absurd (false≢true h)
-few_in t (shape.Untimer a) f h = absurd (false≢true h)
+few_in t (shape.Timer a) f h = leb-false 10000 t.statements (or_false (nat_le 10000 t.statements) _ (or_false _ (has_long_expr (shape.Timer a)) f).0).0
+few_in t (shape.Untimer a) f h = leb-false 10000 t.statements (or_false (nat_le 10000 t.statements) _ (or_false _ (has_long_expr (shape.Untimer a)) f).0).0
 
 pub few_statements : (t : Tables) (s : Shape) → fault_by t s ≡ None → is_statement s ≡ true → t.statements < 10000
 few_statements t s f h = let n = no_fault t s f in few_in t s n.few h
@@ -300,9 +356,9 @@ states_in t (shape.Untimer a) f h = h
 pub states_after : (t : Tables) (s : Shape) → fault_by t s ≡ None → length t.states ≤ 64 → length (after s t).states ≤ 64
 states_after t s f h = let n = no_fault t s f in states_in t s n.few h
 
-pub sound_start : Sound start []
-unfolding start
-sound_start = record { fields = tt; states = omega arith; locals = omega arith; inside = λ q. absurd (false≢true q); before = λ q. refl; fit = refl }
+pub sound_start : Sound start no_rows
+unfolding start most_locals
+sound_start = record { fields = tt; states = omega arith; locals = omega arith; inside = λ q. absurd (false≢true q); before = λ q. refl; row = refl; timer = refl }
 
 row_fits_in : (n : ℕ) (ks : List Kind) (stmt : Stmt) → stmt_fits n ks stmt ≡ row_fits n ks (row_in stmt)
 row_fits_in n ks (code.Get name state missing) = refl
@@ -319,6 +375,6 @@ stmts_fit n ks (s ∷ ss) h =
     and_from (stmt_fits n ks s) (list_all (stmt_fits n ks) ss) (row_fits_in n ks s ∙ a.0) (stmts_fit n ks ss a.1)
 
 -- a line without fault, by its shape where it has one
-pub sound_line : (t : Tables) (rows : List Row) (s : Option Shape) → Sound t rows → SmallInput s → fault_in t s ≡ None → Sound (after_in t s) (rows ++ rows_in t s)
+pub sound_line : (t : Tables) (rows : HandlerRows) (s : Option Shape) → Sound t rows → SmallInput s → fault_in t s ≡ None → Sound (after_in t s) (joined rows (rows_in t s))
 sound_line t rows None h i f = absurd (none-some 1 (sym f))
 sound_line t rows (Some s) h i f = sound_after t rows s h i f

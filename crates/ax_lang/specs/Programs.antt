@@ -11,7 +11,7 @@ use Rattle.ax_lang.specs.declared.reader.SectionEnd.{SectionEnd}
 use Rattle.ax_lang.specs.declared.reader.ProgFault.{ProgFault}
 use Rattle.ax_lang.specs.declared.reader.ProgFault.TheVariants as fault
 use Rattle.ax_lang.specs.Tables.{fault_by, after, start}
-use Rattle.ax_lang.specs.Rows.{Row, row_of, text_of}
+use Rattle.ax_lang.specs.Rows.{HandlerRows, no_rows, joined, rows_by, text_of, text_if}
 use Rattle.ax_lang.specs.Shown.{shown}
 
 abbrev pub shape_in : Line → Option Shape
@@ -26,28 +26,24 @@ abbrev pub after_in : Tables → Option Shape → Tables
 after_in t None = t
 after_in t (Some s) = after s t
 
-abbrev pub row_list : Option Row → List Row
-row_list None = []
-row_list (Some r) = r ∷ []
-
-abbrev pub rows_in : Tables → Option Shape → List Row
-rows_in t None = []
-rows_in t (Some s) = row_list (row_of (after s t) s)
+abbrev pub rows_in : Tables → Option Shape → HandlerRows
+rows_in t None = no_rows
+rows_in t (Some s) = rows_by (after s t) s
 
 abbrev pub tables_from : Tables → List Line → Tables
 tables_from t [] = t
 tables_from t (l ∷ ls) = tables_from (after_in t (shape_in l)) ls
 
-abbrev pub rows_from : Tables → List Line → List Row
-rows_from t [] = []
-rows_from t (l ∷ ls) = rows_in t (shape_in l) ++ rows_from (after_in t (shape_in l)) ls
+abbrev pub rows_from : Tables → List Line → HandlerRows
+rows_from t [] = no_rows
+rows_from t (l ∷ ls) = joined (rows_in t (shape_in l)) (rows_from (after_in t (shape_in l)) ls)
 
 -- what lines say together
 unfoldable pub tables_of : List Line → Tables
 tables_of lines = tables_from start lines
 
 -- the rows of lines, in order
-unfoldable pub rows_of : List Line → List Row
+unfoldable pub rows_of : List Line → HandlerRows
 rows_of lines = rows_from start lines
 
 pub data Reading : Type 0 where
@@ -66,10 +62,10 @@ fields_or (Some n) = n
 unfoldable pub is_whole : Tables → Bool
 is_whole t = (is_some t.fields && t.row) && not t.inside
 
-unfoldable pub program_in : Tables → List Row → Program
-program_in t rows = record { fields = fields_or t.fields; states = states_of t.states; row = text_of rows; timer = None }
+unfoldable pub program_in : Tables → HandlerRows → Program
+program_in t rows = record { fields = fields_or t.fields; states = states_of t.states; row = text_of rows.row; timer = text_if t.timer rows.timer }
 
-unfoldable pub ended : Tables → List Row → SectionEnd → Reading
+unfoldable pub ended : Tables → HandlerRows → SectionEnd → Reading
 ended t rows end = if is_whole t && end.found then Accepted (program_in t rows) else Faulty end.line 10
 
 -- the lines before a line, that line and those behind it, and the end of the section
@@ -82,8 +78,8 @@ unfoldable pub program_of : List Line → SectionEnd → Reading
 program_of lines end = read_from [] lines end
 
 -- what the reading of a line did
-abbrev pub TakesLine : Line → Tables → Tables → List Row → List Row → Result Unit ProgFault → Type 0
-TakesLine l t t' rows rows' (Ok u) = (fault_in t (shape_in l) ≡ None) × (t' ≡ after_in t (shape_in l)) × (rows' ≡ rows ++ rows_in t (shape_in l))
+abbrev pub TakesLine : Line → Tables → Tables → HandlerRows → HandlerRows → Result Unit ProgFault → Type 0
+TakesLine l t t' rows rows' (Ok u) = (fault_in t (shape_in l) ≡ None) × (t' ≡ after_in t (shape_in l)) × (rows' ≡ joined rows (rows_in t (shape_in l)))
 TakesLine l t t' rows rows' (Err (fault.At line kind)) = (line ≡ l.number) × (fault_in t (shape_in l) ≡ Some kind)
 TakesLine l t t' rows rows' (Err fault.NoMemory) = Unit {0}
 

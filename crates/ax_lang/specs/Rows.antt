@@ -1,5 +1,5 @@
 -- Lines of a handler whose names are numbers, and the text that they make.
-use Rattle.std.specs.Prelude.{ℕ, ℤ, ◌+◌, ◌-◌, List, [], ◌∷◌, map, Bool, true, false, Option, Some, None, if◌then◌else◌}
+use Rattle.std.specs.Prelude.{ℕ, ℤ, ◌+◌, ◌-◌, List, [], ◌∷◌, ◌++◌, map, Bool, true, false, Option, Some, None, if◌then◌else◌}
 use lib.Chars.{codes}
 use Rattle.ax_base.specs.Numbers.{number_of}
 use Rattle.ax_text.specs.declared.vocabulary.Op.{Op}
@@ -11,7 +11,7 @@ use Rattle.ax_text.specs.Texts as text
 use Rattle.ax_syntax.specs.declared.words.Keyword.{Keyword}
 use Rattle.ax_syntax.specs.declared.words.Keyword.TheVariants as k
 use Rattle.ax_syntax.specs.Words.{Word, same_word, keyword_of, field_number, sign_of}
-use Rattle.ax_syntax.specs.Shapes.{Shape, Get, Put, Emit, parts_of}
+use Rattle.ax_syntax.specs.Shapes.{Shape, Get, Put, Emit, Timer, Untimer, parts_of}
 use Rattle.ax_expr.specs.declared.tree.Mark.{Mark}
 use Rattle.ax_expr.specs.declared.tree.Mark.TheVariants as mark
 use Rattle.ax_expr.specs.Reading.{tree_of}
@@ -21,6 +21,27 @@ use Rattle.ax_lang.specs.Tables.{state_names}
 pub data Row : Type 0 where
   ActRow : (quiet : Quiet) → Row
   AskRow : (asking : Asking) → Row
+
+-- the rows of the two handlers
+pub record HandlerRows : Type 0 where
+  pub row : List Row
+  pub timer : List Row
+
+abbrev pub no_rows : HandlerRows
+no_rows = record { row = []; timer = [] }
+
+-- the rows of one handler: of `on timer`, or of `on row`
+abbrev pub rows_at : Bool → List Row → HandlerRows
+rows_at true rows = record { row = []; timer = rows }
+rows_at false rows = record { row = rows; timer = [] }
+
+-- later rows stand behind earlier ones, in each handler
+abbrev pub joined : HandlerRows → HandlerRows → HandlerRows
+joined a b = record { row = a.row ++ b.row; timer = a.timer ++ b.timer }
+
+abbrev pub row_list : Option Row → List Row
+row_list None = []
+row_list (Some r) = r ∷ []
 
 -- the place of a word, where n stand before the list
 abbrev pub index_of : ℕ → List Word → Word → Option ℕ
@@ -75,7 +96,13 @@ unfoldable pub row_of : Tables → Shape → Option Row
 row_of t (Get name state missing) = Some (AskRow (text.Get (place_in t.locals name) (place_in (state_names t.states) state) (tree_in t.locals missing)))
 row_of t (Put state values) = Some (AskRow (text.Put (place_in (state_names t.states) state) (tree_in t.locals values)))
 row_of t (Emit values) = Some (ActRow (text.Emit (map (tree_in t.locals) (parts_of values))))
+row_of t (Timer time) = Some (ActRow (text.Timer (tree_in t.locals time)))
+row_of t (Untimer time) = Some (ActRow (text.Untimer (tree_in t.locals time)))
 row_of t _ = None
+
+-- the row of a line, in its handler
+abbrev pub rows_by : Tables → Shape → HandlerRows
+rows_by t s = rows_at t.timer (row_list (row_of t s))
 
 -- a row stands before a text
 abbrev pub with_row : Row → Text → Text

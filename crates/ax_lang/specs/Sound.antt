@@ -1,5 +1,5 @@
 -- What holds of the tables and of the rows of lines without fault.
-use Rattle.std.specs.Prelude.{◌≡◌, ℕ, ◌≤◌, List, [], length, Bool, true, false, ◌&&◌, Option, Some, None, nat_lt}
+use Rattle.std.specs.Prelude.{◌≡◌, ℕ, ◌≤◌, List, length, Bool, true, false, ◌&&◌, Option, Some, None, nat_lt}
 use Rattle.std.specs.List.{list_all}
 use Rattle.ax_text.specs.declared.vocabulary.Kind.{Kind}
 use Rattle.ax_text.specs.declared.vocabulary.Kind.TheVariants as kind
@@ -8,7 +8,8 @@ use Rattle.ax_state.specs.Decls.{kinds}
 use Rattle.ax_state.specs.Fits.{has_kind}
 use Rattle.ax_syntax.specs.Shapes.{Shape, Input}
 use Rattle.ax_lang.specs.declared.tables.Tables.{Tables}
-use Rattle.ax_lang.specs.Rows.{Row, ActRow, AskRow}
+use Rattle.ax_lang.specs.Tables.{most_locals}
+use Rattle.ax_lang.specs.Rows.{Row, ActRow, AskRow, HandlerRows, no_rows}
 
 abbrev pub UpToSixteen : Option ℕ → Type 0
 UpToSixteen None = Unit {0}
@@ -25,14 +26,15 @@ row_fits locals kinds (ActRow q) = true
 row_fits locals kinds (AskRow (text.Get name state missing)) = nat_lt name locals && has_kind kinds state kind.Value
 row_fits locals kinds (AskRow (text.Put state number)) = has_kind kinds state kind.Value
 
-abbrev pub Sound : Tables → List Row → Type 0
+abbrev pub Sound : Tables → HandlerRows → Type 0
 Sound t rows = record {
   fields : UpToSixteen t.fields;
   states : length t.states ≤ 64;
-  locals : length t.locals ≤ 256;
+  locals : most_locals t ≤ 256;
   -- a handler is open only behind `on row`
   inside : t.inside ≡ true → t.row ≡ true;
   -- before it there are no statements
-  before : t.row ≡ false → rows ≡ [];
-  fit : list_all (row_fits (length t.locals) (kinds t.states)) rows ≡ true;
+  before : t.row ≡ false → rows ≡ no_rows;
+  row : list_all (row_fits (most_locals t) (kinds t.states)) rows.row ≡ true;
+  timer : list_all (row_fits (most_locals t) (kinds t.states)) rows.timer ≡ true;
 }

@@ -10,7 +10,8 @@ use Rattle.ax_expr.specs.Seen.{seen}
 use Rattle.ax_lang.specs.declared.step.Stmt.{Stmt}
 use Rattle.ax_lang.specs.declared.step.Stmt.TheVariants as code
 use Rattle.ax_lang.specs.declared.step.Step.{Step}
-use Rattle.ax_lang.specs.Rows.{Row, ActRow, AskRow, with_row}
+use Rattle.ax_lang.specs.declared.step.Handlers.{Handlers}
+use Rattle.ax_lang.specs.Rows.{Row, ActRow, AskRow, HandlerRows, with_row}
 
 abbrev pub row_in : Stmt → Row
 row_in (code.Get name state missing) = AskRow (text.Get name state (seen missing))
@@ -18,6 +19,10 @@ row_in (code.Put state number) = AskRow (text.Put state (seen number))
 row_in (code.Emit values) = ActRow (text.Emit (map seen values))
 row_in (code.SetTimer time) = ActRow (text.Timer (seen time))
 row_in (code.UnsetTimer time) = ActRow (text.Untimer (seen time))
+
+-- the rows of the handlers' statements
+abbrev pub rows_shown : Handlers → HandlerRows
+rows_shown h = record { row = map row_in h.row.items; timer = map row_in h.timer.items }
 
 abbrev pub row_some : Option Stmt → Option Row
 row_some None = None

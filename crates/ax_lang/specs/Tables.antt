@@ -1,17 +1,15 @@
 -- What the lines before a line have said, and the faults of a line.
-use Rattle.std.specs.Prelude.{ℕ, ◌+◌, List, [], ◌∷◌, ◌++◌, map, length, Bool, true, false, not, Option, Some, None, if◌then◌else◌, ◌&&◌, ◌||◌, is_some, nat_le, nat_lt}
+use Rattle.std.specs.Prelude.{ℕ, ◌+◌, max, List, [], ◌∷◌, ◌++◌, map, length, Bool, true, false, not, Option, Some, None, if◌then◌else◌, ◌&&◌, ◌||◌, is_some, nat_le, nat_lt}
 use Rattle.std.specs.List.{list_any, list_all}
 use lib.Chars.{codes}
 use Rattle.ax_text.specs.declared.vocabulary.Kind.TheVariants as kind
 use Rattle.ax_text.specs.declared.vocabulary.Op.{Op}
 use Rattle.ax_text.specs.declared.vocabulary.Op.TheVariants as op
 use Rattle.ax_state.specs.declared.decls.Decl.{Decl}
-use Rattle.ax_syntax.specs.declared.words.Keyword.{Keyword}
-use Rattle.ax_syntax.specs.declared.words.Keyword.TheVariants as k
 use Rattle.ax_syntax.specs.declared.shape.KindWord.{KindWord}
 use Rattle.ax_syntax.specs.declared.shape.KindWord.TheVariants as word
-use Rattle.ax_syntax.specs.Words.{Word, same_word, keyword_of, is_name, is_value_word, field_number, sign_of}
-use Rattle.ax_syntax.specs.Shapes.{Shape, Input, State, OnRow, OnTimer, End, Get, Put, Else, With, Emit, parts_of}
+use Rattle.ax_syntax.specs.Words.{Word, same_word, is_name, is_value_word, field_number, sign_of}
+use Rattle.ax_syntax.specs.Shapes.{Shape, Input, State, OnRow, OnTimer, End, Get, Put, Else, With, Emit, Timer, Untimer, parts_of}
 use Rattle.ax_lang.specs.declared.tables.Tables.{Tables}
 
 abbrev pub mem : Word → List Word → Bool
@@ -37,6 +35,8 @@ abbrev pub reads_of : Shape → List Word
 reads_of (Get name state missing) = missing
 reads_of (Put state values) = values
 reads_of (Emit values) = values
+reads_of (Timer time) = time
+reads_of (Untimer time) = time
 reads_of _ = []
 
 -- the word in a state's place
@@ -50,6 +50,8 @@ abbrev pub is_statement : Shape → Bool
 is_statement (Get name state missing) = true
 is_statement (Put state values) = true
 is_statement (Emit values) = true
+is_statement (Timer time) = true
+is_statement (Untimer time) = true
 is_statement _ = false
 
 abbrev pub some_is : (Word → Bool) → Option Word → Bool
@@ -64,12 +66,8 @@ is_built_sign (Some op.Add) = true
 is_built_sign (Some op.Subtract) = true
 is_built_sign (Some _) = false
 
-abbrev pub is_wm : Option Keyword → Bool
-is_wm (Some k.Wm) = true
-is_wm _ = false
-
 unfoldable pub is_built_word : Word → Bool
-is_built_word w = (is_built_sign (sign_of w) && not (is_wm (keyword_of w))) && not (same_word w (codes "(") || same_word w (codes ")"))
+is_built_word w = is_built_sign (sign_of w) && not (same_word w (codes "(") || same_word w (codes ")"))
 
 abbrev pub is_comma : Word → Bool
 is_comma w = same_word w (codes ",")
@@ -82,10 +80,13 @@ unfoldable pub is_built : Shape → Bool
 is_built (Input n) = true
 is_built (State name kind) = is_built_kind kind
 is_built OnRow = true
+is_built OnTimer = true
 is_built End = true
 is_built (Get name state missing) = list_all is_built_word missing
 is_built (Put state values) = list_all is_built_word values && not (list_any is_comma values)
 is_built (Emit values) = list_all is_built_word values
+is_built (Timer time) = list_all is_built_word time
+is_built (Untimer time) = list_all is_built_word time
 is_built _ = false
 
 -- the faults of a line, where the tables are those of the lines before it
@@ -123,6 +124,7 @@ unfoldable pub is_twice : Tables → Shape → Bool
 is_twice t (Input n) = is_some t.fields
 is_twice t (State name kind) = is_state t name
 is_twice t OnRow = t.row
+is_twice t OnTimer = t.timer
 is_twice t _ = false
 
 abbrev pub is_up_to : Option ℕ → Option ℕ → Bool
@@ -132,8 +134,9 @@ is_up_to _ _ = false
 abbrev pub is_unknown_name : Tables → Word → Bool
 is_unknown_name t w = is_name w && not (is_state t w || is_local t w)
 
+-- `on timer` has no values
 abbrev pub is_unknown_value : Tables → Word → Bool
-is_unknown_value t w = is_value_word w && not (is_up_to (field_number w) t.fields)
+is_unknown_value t w = is_value_word w && (t.timer || not (is_up_to (field_number w) t.fields))
 
 abbrev pub is_unknown : Tables → Word → Bool
 is_unknown t w = is_unknown_name t w || is_unknown_value t w
@@ -163,15 +166,26 @@ with_word (Some w) ws = if mem w ws then ws else ws ++ w ∷ []
 abbrev pub with_statement : Shape → Tables → Tables
 with_statement s t = record t { locals = with_word (set_of s) t.locals; statements = t.statements + 1 }
 
+-- the most local names that a handler has so far
+unfoldable pub most_locals : Tables → ℕ
+most_locals t = max t.earlier (length t.locals)
+
+-- a handler begins, with local names of its own
+abbrev pub begun : Tables → Tables
+begun t = record t { inside = true; earlier = most_locals t; locals = [] }
+
 unfoldable pub after : Shape → Tables → Tables
 after (Input n) t = record t { fields = Some n }
 after (State name named) t = record t { states = t.states ++ record { name = name; kind = kind.Value } ∷ [] }
-after OnRow t = record t { row = true; inside = true; locals = [] }
+after OnRow t = record (begun t) { row = true }
+after OnTimer t = record (begun t) { timer = true }
 after End t = record t { inside = false }
 after (Get name state missing) t = with_statement (Get name state missing) t
 after (Put state values) t = with_statement (Put state values) t
 after (Emit values) t = with_statement (Emit values) t
+after (Timer time) t = with_statement (Timer time) t
+after (Untimer time) t = with_statement (Untimer time) t
 after _ t = t
 
 unfoldable pub start : Tables
-start = record { fields = None; states = []; row = false; inside = false; locals = []; statements = 0 }
+start = record { fields = None; states = []; row = false; timer = false; inside = false; earlier = 0; locals = []; statements = 0 }

@@ -2,15 +2,15 @@
 ghost use Rattle.std.specs.Prelude.{◌≡◌, length, not, ◌&&◌, ◌||◌, nat_lt};
 ghost use Rattle.std.specs.List.{list_any, list_all};
 ghost use Rattle.std.specs.Option.{option_copied};
-ghost use Rattle.ax_syntax.specs.Words.{sign_of, keyword_of};
+ghost use Rattle.ax_syntax.specs.Words.{sign_of};
 ghost use Rattle.ax_syntax.specs.Shapes.{seen, parts_of};
-ghost use Rattle.ax_lang.specs.Tables.{is_state, is_local, some_is, is_built_sign, is_wm, is_built_word, is_built_kind, is_built, is_comma, may_stand, is_new_local, is_long, has_long_expr, has_too_many, is_too_many, is_twice, is_up_to, is_unknown_name, is_unknown_value, is_unknown, has_unknown, has_wrong_kind, fault_by};
+ghost use Rattle.ax_lang.specs.Tables.{is_state, is_local, some_is, is_built_sign, is_built_word, is_built_kind, is_built, is_comma, may_stand, is_new_local, is_long, has_long_expr, has_too_many, is_too_many, is_twice, is_up_to, is_unknown_name, is_unknown_value, is_unknown, has_unknown, has_wrong_kind, fault_by};
 
 use crate::tables::{Tables, is_declared, is_statement, mem, reads_of, set_of, use_of};
 use ax_base::Bytes;
 use ax_syntax::shape::first_part;
-use ax_syntax::words::{field_number, is_name, is_value_word, keyword_of, same, sign_of};
-use ax_syntax::{Keyword, KindWord, Shape};
+use ax_syntax::words::{field_number, is_name, is_value_word, same, sign_of};
+use ax_syntax::{KindWord, Shape};
 use ax_text::Op;
 
 fn is_built_sign(sign: Option<Op>) -> bool
@@ -19,17 +19,11 @@ fn is_built_sign(sign: Option<Op>) -> bool
     matches!(sign, None | Some(Op::Add | Op::Subtract))
 }
 
-fn is_wm(word: &[u8]) -> bool
-    ensures { result ≡ is_wm (keyword_of word.now) }
-{
-    matches!(keyword_of(word), Some(Keyword::Wm))
-}
-
 #[tactic(auto, unfolding(crate::specs::Tables::is_built_word))]
 fn is_built_word(word: &[u8]) -> bool
     ensures { result ≡ is_built_word word.now }
 {
-    is_built_sign(sign_of(word)) && !is_wm(word) && !(same(word, b"(") || same(word, b")"))
+    is_built_sign(sign_of(word)) && !(same(word, b"(") || same(word, b")"))
 }
 
 fn are_built_words(words: &[Bytes]) -> bool
@@ -59,10 +53,13 @@ fn is_built(shape: &Shape) -> bool
         Shape::Input(_) => true,
         Shape::State(_, kind) => is_built_kind(*kind),
         Shape::OnRow => true,
+        Shape::OnTimer => true,
         Shape::End => true,
         Shape::Get(_, _, missing) => are_built_words(missing),
         Shape::Put(_, values) => are_built_words(values) && !has_comma(values),
         Shape::Emit(values) => are_built_words(values),
+        Shape::Timer(time) => are_built_words(time),
+        Shape::Untimer(time) => are_built_words(time),
         _ => false,
     }
 }
@@ -154,7 +151,7 @@ impl Tables {
     fn is_unknown_value(&self, word: &[u8]) -> bool
         ensures { result ≡ is_unknown_value self.now word.now }
     {
-        is_value_word(word) && !is_up_to(field_number(word), self.fields)
+        is_value_word(word) && (self.timer || !is_up_to(field_number(word), self.fields))
     }
 
     fn is_unknown(&self, word: &[u8]) -> bool
@@ -217,6 +214,7 @@ impl Tables {
             Shape::Input(_) => self.fields.is_some(),
             Shape::State(name, _) => self.is_state(name.as_slice()),
             Shape::OnRow => self.row,
+            Shape::OnTimer => self.timer,
             _ => false,
         }
     }

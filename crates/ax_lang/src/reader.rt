@@ -1,12 +1,12 @@
 //! The reader of programs.
-ghost use Rattle.std.specs.Prelude.{◌≡◌, ◌++◌, map, OnOk, None, Some};
+ghost use Rattle.std.specs.Prelude.{◌≡◌, ◌++◌, map, true, OnOk, None, Some};
 ghost use Rattle.ax_base.specs.Words.{words_of};
 ghost use Rattle.ax_syntax.specs.Shapes.{seen, shape_of};
 ghost use Rattle.ax_lang.specs.Tables.{after, fault_by};
-ghost use Rattle.ax_lang.specs.Rows.{row_of};
-ghost use Rattle.ax_lang.specs.Steps.{row_in, row_some};
+ghost use Rattle.ax_lang.specs.Rows.{HandlerRows, joined, row_list, rows_at, rows_by};
+ghost use Rattle.ax_lang.specs.Steps.{row_in, row_some, rows_shown};
 ghost use Rattle.ax_lang.specs.Sound.{Sound};
-ghost use Rattle.ax_lang.specs.Programs.{row_list, ended, program_in, is_whole, program_of, TakesLine, ReadsProgram};
+ghost use Rattle.ax_lang.specs.Programs.{ended, program_in, is_whole, program_of, TakesLine, ReadsProgram};
 
 use crate::program::Program;
 use crate::rows::stmt_of;
@@ -52,33 +52,45 @@ fn push_some(stmts: &mut Vec<Stmt>, stmt: Option<Stmt>) -> Result<(), NoMemory>
     }
 }
 
+impl Handlers {
+    // A statement, if there is one, goes last into a handler.
+    fn push_some(&mut self, timer: bool, stmt: Option<Stmt>) -> Result<(), NoMemory>
+        ensures { OnOk result (rows_shown self.new ≡ joined (rows_shown self.old) (rows_at timer (row_list (row_some stmt)))) }
+    {
+        if timer {
+            push_some(&mut self.timer, stmt)
+        } else {
+            push_some(&mut self.row, stmt)
+        }
+    }
+}
+
 // Takes a line of this shape, which has no fault.
 fn take_shape(
     alloc: Global,
     tables: &mut Tables,
-    stmts: &mut Vec<Stmt>,
+    handlers: &mut Handlers,
     shape: &Shape,
 ) -> Result<(), NoMemory>
-    requires sound { Sound tables.old (map row_in stmts.old.items) }
+    requires sound { Sound tables.old (rows_shown handlers.old) }
     requires no_fault { fault_by tables.old (seen shape.now) ≡ None }
     ensures tables { OnOk result (tables.new ≡ after (seen shape.now) tables.old) }
-    ensures rows { OnOk result (map row_in stmts.new.items ≡ map row_in stmts.old.items ++ row_list (row_of (after (seen shape.now) tables.old) (seen shape.now))) }
+    ensures rows { OnOk result (rows_shown handlers.new ≡ joined (rows_shown handlers.old) (rows_by (after (seen shape.now) tables.old) (seen shape.now))) }
 {
     tables.take(alloc, shape)?;
     let stmt = stmt_of(alloc, tables, shape)?;
-    push_some(stmts, stmt)?;
-    Ok(())
+    handlers.push_some(tables.timer, stmt)
 }
 
 // Takes a line, or tells its fault.
 fn take_line(
     alloc: Global,
     tables: &mut Tables,
-    stmts: &mut Vec<Stmt>,
+    handlers: &mut Handlers,
     line: &Line,
 ) -> Result<(), ProgFault>
-    requires { Sound tables.old (map row_in stmts.old.items) }
-    ensures { TakesLine line.now tables.old tables.new (map row_in stmts.old.items) (map row_in stmts.new.items) result }
+    requires { Sound tables.old (rows_shown handlers.old) }
+    ensures { TakesLine line.now tables.old tables.new (rows_shown handlers.old) (rows_shown handlers.new) result }
 {
     let number = line.number;
     let Ok(words) = words(alloc, line.text.as_slice()) else {
@@ -93,7 +105,7 @@ fn take_line(
     if let Some(kind) = tables.fault_by(&shape) {
         return Err(ProgFault::At { line: number, kind });
     }
-    match take_shape(alloc, tables, stmts, &shape) {
+    match take_shape(alloc, tables, handlers, &shape) {
         Ok(()) => Ok(()),
         Err(NoMemory) => Err(ProgFault::NoMemory),
     }
@@ -104,20 +116,16 @@ fn take_line(
 fn finish(
     alloc: Global,
     tables: Tables,
-    stmts: Vec<Stmt>,
+    handlers: Handlers,
     end: SectionEnd,
 ) -> Result<Program, ProgFault>
-    requires { Sound tables (map row_in stmts.items) }
-    ensures { ReadsProgram (ended tables (map row_in stmts.items) end) result }
+    requires { Sound tables (rows_shown handlers) }
+    ensures { ReadsProgram (ended tables (rows_shown handlers) end) result }
 {
     match tables.fields {
         Some(fields) if tables.row && !tables.inside && end.found => {
-            let locals = tables.locals.as_slice().len();
-            let handlers = Handlers {
-                row: stmts,
-                timer: Vec::new(alloc),
-            };
-            match Program::new(alloc, fields, tables.states, locals, handlers, false) {
+            let locals = tables.most_locals();
+            match Program::new(alloc, fields, tables.states, locals, handlers, tables.timer) {
                 Ok(program) => Ok(program),
                 Err(NoMemory) => Err(ProgFault::NoMemory),
             }
@@ -134,11 +142,14 @@ pub fn read_program(alloc: Global, lines: &[Line], end: SectionEnd) -> Result<Pr
     ensures { ReadsProgram (program_of lines.now end) result }
 {
     let mut tables = Tables::new(alloc);
-    let mut stmts = Vec::new(alloc);
+    let mut handlers = Handlers {
+        row: Vec::new(alloc),
+        timer: Vec::new(alloc),
+    };
     for line in lines {
-        if let Err(fault) = take_line(alloc, &mut tables, &mut stmts, line) {
+        if let Err(fault) = take_line(alloc, &mut tables, &mut handlers, line) {
             return Err(fault);
         }
     }
-    finish(alloc, tables, stmts, end)
+    finish(alloc, tables, handlers, end)
 }

@@ -172,6 +172,14 @@ pub fn stmt_of(alloc: Global, tables: &Tables, shape: &Shape) -> Result<Option<S
             let values = trees_in(alloc, locals, values)?;
             Ok(Some(Stmt::Emit { values }))
         }
+        Shape::Timer(time) => {
+            let time = tree_in(alloc, locals, time)?;
+            Ok(Some(Stmt::SetTimer { time }))
+        }
+        Shape::Untimer(time) => {
+            let time = tree_in(alloc, locals, time)?;
+            Ok(Some(Stmt::UnsetTimer { time }))
+        }
         _ => Ok(None),
     }
 }

@@ -3,7 +3,7 @@ ghost use Rattle.std.specs.Prelude.{◌≡◌, ◌<◌, ◌++◌, ◌∷◌, [],
 ghost use Rattle.ax_text.specs.declared.vocabulary.Kind.TheVariants.{Value as ValueKind};
 ghost use Rattle.std.specs.Option.{option_copied};
 ghost use Rattle.ax_syntax.specs.Shapes.{seen};
-ghost use Rattle.ax_lang.specs.Tables.{mem, state_names, set_of, reads_of, use_of, is_statement, with_word, with_statement, after, start};
+ghost use Rattle.ax_lang.specs.Tables.{mem, state_names, set_of, reads_of, use_of, is_statement, with_word, with_statement, most_locals, begun, after, start};
 
 use ax_base::{Bytes, Duplicate, ListOf, NoMemory};
 use ax_state::{Decl, Decls};
@@ -21,9 +21,13 @@ pub struct Tables {
     pub states: Decls,
     /// Whether `on row` has begun.
     pub row: bool,
+    /// Whether `on timer` has begun.
+    pub timer: bool,
     /// Whether a handler is open.
     pub inside: bool,
-    /// The local names of the handler, in order of their first assignment.
+    /// The most local names that a handler before the last one has.
+    pub earlier: usize,
+    /// The local names of the last handler that has begun, in order of their first assignment.
     pub locals: ListOf<Bytes>,
     /// How many statements there were.
     pub statements: usize,
@@ -71,6 +75,8 @@ pub fn reads_of<'a>(shape: &Shape<'a>) -> &'a [Bytes]
         Shape::Get(_, _, missing) => missing,
         Shape::Put(_, values) => values,
         Shape::Emit(values) => values,
+        Shape::Timer(time) => time,
+        Shape::Untimer(time) => time,
         _ => &[],
     }
 }
@@ -90,7 +96,10 @@ pub fn use_of<'a>(shape: &Shape<'a>) -> Option<&'a Bytes>
 pub fn is_statement(shape: &Shape) -> bool
     ensures { result ≡ is_statement (seen shape.now) }
 {
-    matches!(shape, Shape::Get(..) | Shape::Put(..) | Shape::Emit(_))
+    matches!(
+        shape,
+        Shape::Get(..) | Shape::Put(..) | Shape::Emit(_) | Shape::Timer(_) | Shape::Untimer(_)
+    )
 }
 
 // Adds a word that isn't there.
@@ -117,10 +126,29 @@ impl Tables {
             fields: None,
             states: ListOf::new(alloc),
             row: false,
+            timer: false,
             inside: false,
+            earlier: 0,
             locals: ListOf::new(alloc),
             statements: 0,
         }
+    }
+
+    /// The most local names that a handler has so far.
+    #[tactic(auto, unfolding(crate::specs::Tables::most_locals))]
+    pub fn most_locals(&self) -> usize
+        ensures { result ≡ most_locals self.now }
+    {
+        self.earlier.max(self.locals.as_slice().len())
+    }
+
+    // A handler begins, with local names of its own.
+    fn begin(&mut self, alloc: Global)
+        ensures { self.new ≡ begun self.old }
+    {
+        self.earlier = self.most_locals();
+        self.inside = true;
+        self.locals = ListOf::new(alloc);
     }
 
     fn add_state(&mut self, alloc: Global, name: &Bytes) -> Result<(), NoMemory>
@@ -158,16 +186,24 @@ impl Tables {
             }
             Shape::State(name, _) => self.add_state(alloc, name),
             Shape::OnRow => {
+                self.begin(alloc);
                 self.row = true;
-                self.inside = true;
-                self.locals = ListOf::new(alloc);
+                Ok(())
+            }
+            Shape::OnTimer => {
+                self.begin(alloc);
+                self.timer = true;
                 Ok(())
             }
             Shape::End => {
                 self.inside = false;
                 Ok(())
             }
-            Shape::Get(..) | Shape::Put(..) | Shape::Emit(_) => self.add_statement(alloc, shape),
+            Shape::Get(..)
+            | Shape::Put(..)
+            | Shape::Emit(_)
+            | Shape::Timer(_)
+            | Shape::Untimer(_) => self.add_statement(alloc, shape),
             _ => Ok(()),
         }
     }

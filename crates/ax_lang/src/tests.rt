@@ -66,32 +66,152 @@ fn fault_in(alloc: Global, text: &str, found: bool) -> Result<(u64, u8), NoMemor
     fault_of(alloc, &lines, found)
 }
 
-#[test]
-fn programs_without_fault(rt: HostRuntime) {
-    let alloc = rt.alloc();
-    let cases = [
-        "input 0; on row; end",
-        "input 16; on row; emit v1 , v16; end",
-        "input 2; state s value; on row; n = get s or 0; put s n + v1 - 1; emit n , time , v2; end",
-        "input 1; state s value; on row; x = get s or 1 + v1; x = get s or x; end",
-        "\tinput   1\r; state v value; state v1x value; on row; x = get v1x or 0; put v x; end",
-        "input 0; on row; emit -9223372036854775808 - 007; end",
-        "input 0; on row; emit 1 , 2 , 3 , 4 , 5 , 6 , 7 , 8 , 9 , 10 , 11 , 12 , 13 , 14 , 15 , 16; end",
-        "input 0; state a value; state b value; on row; x = get b or 0; put a x; put b x; emit x; end",
-    ];
-    let mut at: usize = 0;
-    for text in cases.iter() {
-        let fault = fault_in(alloc, *text, true).unwrap_or((99, 99));
-        assert_eq!(rt; fault, (0, 0), "case {at}");
-        at = at.wrapping_add(1);
-    }
+// A line of these tables has a program with `;` between its lines, and behind `|` the line and kind of its first fault;
+// 0 and 0 where there is none.
+
+const WHOLE: &str = "\
+input 0;on row;end|0 0
+input 16;on row;emit v1 , v16;end|0 0
+input 2;state s value;on row;n = get s or 0;put s n + v1 - 1;emit n , time , v2;end|0 0
+input 1;state s value;on row;x = get s or 1 + v1;x = get s or x;end|0 0
+\tinput   1\r;state v value;state v1x value;on row;x = get v1x or 0;put v x;end|0 0
+input 0;on row;emit -9223372036854775808 - 007;end|0 0
+input 0;on row;emit 1 , 2 , 3 , 4 , 5 , 6 , 7 , 8 , 9 , 10 , 11 , 12 , 13 , 14 , 15 , 16;end|0 0
+input 0;state a value;state b value;on row;x = get b or 0;put a x;put b x;emit x;end|0 0
+input 1;on row;emit wm;timer time + v1;untimer wm - 1;end|0 0
+input 1;on row;end;on timer;end|0 0
+input 1;on row;timer wm;end;on timer;emit wm , time;end|0 0
+input 1;state s value;on row;x = get s or v1;end;on timer;x = get s or 0;put s x + 1;untimer x;timer time + wm;end|0 0";
+
+const MISPLACED: &str = "\
+;|1 1
+input|1 1
+input 17|1 1
+input -1|1 1
+input 1;input 17|2 1
+state s value|1 1
+on row|1 1
+on timer|1 1
+input 1;on timer|2 1
+input 1;on row;on timer|3 1
+input 1;on row;on row|3 1
+input 1;on row;input 1|3 1
+input 1;on row;end;state s value|4 1
+input 1;on row;end;end|4 1
+input 1;on row;end;emit 1|4 1
+input 1;on row;end;timer 1|4 1
+input 1;on row;end;on timer;on timer|5 1
+input 1;on row;end;on timer;on row|5 1
+input 1;on row;end;on timer;input 1|5 1
+input 1;on row;end;on timer;end;end|6 1
+input 1;on row;end;on timer;end;emit 1|6 1
+input 1;on row;end;on timer;end;untimer 1|6 1
+input 1;on row;end;on timer;end;state s value|6 1
+input 1;emit 1|2 1
+input 1;emit 1 * 2|2 1
+input 1;timer 1|2 1
+input 1;untimer time * 2|2 1
+input 1;on row;else|3 1
+input 1;on row;with|3 1
+input 1;on row;emit|3 1
+input 1;on row;emit 1 *|3 1
+input 1;on row;emit 1 + X|3 1
+input 1;on row;emit 9223372036854775808|3 1
+input 1;on row;emit 1 , 2 , 3 , 4 , 5 , 6 , 7 , 8 , 9 , 10 , 11 , 12 , 13 , 14 , 15 , 16 , 17|3 1
+input 1;on row;timer|3 1
+input 1;on row;untimer|3 1
+input 1;on row;timer 1 , 2|3 1
+input 1;on row;untimer 1 +|3 1
+input 1;on row;end;on timer x|4 1
+input 1;state input value|2 1
+input 1;state timer value|2 1
+input 1;state wm value|2 1
+input 1;state v1 value|2 1
+input 1;state s number|2 1";
+
+const UNBUILT: &str = "\
+input 1;state s list|2 13
+input 1;state s map|2 13
+input 1;state s value;state s list|3 13
+input 1;on row;emit 1 * 2|3 13
+input 1;on row;emit 1 < 2|3 13
+input 1;on row;emit ( 1 )|3 13
+input 1;on row;emit x * 2|3 13
+input 1;state s value;on row;emit s * 2|4 13
+input 1;on row;timer time * 2|3 13
+input 1;on row;untimer ( time )|3 13
+input 1;on row;end;on timer;emit v1 * 2|5 13
+input 1;on row;end;on timer;let x = 1|5 13
+input 1;on row;let x = 1|3 13
+input 1;on row;if 1|3 13
+input 1;on row;both|3 13
+input 1;on row;clear s|3 13
+input 1;on row;each x in s|3 13
+input 1;on row;x = has s 1|3 13
+input 1;on row;x = get s 1 or 2|3 13
+input 1;state s value;on row;put s 1 , 2|4 13";
+
+const TWICE: &str = "\
+input 1;input 1|2 3
+input 1;state s value;state s value|3 3
+input 1;on row;end;on row|4 3
+input 1;on row;end;input 2|4 3
+input 1;on row;end;on timer;end;on timer|6 3
+input 1;on row;end;on timer;end;on row|6 3
+input 1;on row;end;on timer;end;input 2|6 3";
+
+const UNKNOWN: &str = "\
+input 1;on row;emit x|3 2
+input 1;on row;x = get x or 0|3 2
+input 1;on row;put x 1|3 2
+input 1;state s value;on row;x = get s or x|4 2
+input 1;state s value;on row;s = get t or 0|4 2
+input 1;state s value;on row;emit s + x|4 2
+input 1;on row;emit v0|3 2
+input 1;on row;emit v01|3 2
+input 1;on row;emit 1 , v2|3 2
+input 16;on row;emit v17|3 2
+input 1;on row;timer x|3 2
+input 1;on row;untimer 1 + x|3 2
+input 1;on row;timer v2|3 2
+input 1;on row;end;on timer;emit v1|5 2
+input 16;on row;emit v1;end;on timer;timer time + v16|6 2
+input 0;on row;end;on timer;untimer v1|5 2
+input 1;state s value;on row;end;on timer;x = get s or v1|6 2
+input 1;state s value;on row;x = get s or 0;end;on timer;emit x|7 2
+input 1;on row;emit x;emit 1 * 2;on row|3 2";
+
+const WRONG_KIND: &str = "\
+input 1;state s value;on row;emit 1 + s|4 4
+input 1;state s value;on row;s = get s or 0|4 4
+input 1;state s value;on row;x = get s or 0;put x 1|5 4
+input 1;state s value;on row;x = get s or 0;y = get x or 0|5 4
+input 1;state s value;on row;timer s|4 4
+input 1;state s value;on row;end;on timer;untimer time + s|6 4";
+
+const DUE: &str = "\
+|1 10
+input 1|2 10
+input 1;on row;emit 1|4 10
+input 1;on row;end;on timer|5 10
+input 1;on row;end;on timer;emit wm|6 10";
+
+// The line and kind that a table names.
+fn named(fault: &str) -> (u64, u8) {
+    let mut words = fault.split(' ');
+    let line = words.next().unwrap_or("").parse::<u64>().unwrap_or(98);
+    let kind = words.next().unwrap_or("").parse::<u8>().unwrap_or(98);
+    (line, kind)
 }
 
-// The first case with another fault.
-fn first_wrong(alloc: Global, cases: &[(&str, (u64, u8))]) -> Option<usize> {
+// The first line of a table whose program has another fault.
+fn first_wrong(alloc: Global, table: &str) -> Option<usize> {
     let mut at: usize = 0;
-    for (text, expected) in cases {
-        if fault_in(alloc, *text, true).unwrap_or((99, 99)) != *expected {
+    for case in table.lines() {
+        let mut parts = case.split('|');
+        let text = parts.next().unwrap_or("");
+        let expected = named(parts.next().unwrap_or(""));
+        if fault_in(alloc, text, true).unwrap_or((99, 99)) != expected {
             return Some(at);
         }
         at = at.wrapping_add(1);
@@ -100,106 +220,15 @@ fn first_wrong(alloc: Global, cases: &[(&str, (u64, u8))]) -> Option<usize> {
 }
 
 #[test]
-fn lines_that_may_not_stand(rt: HostRuntime) {
-    let cases = [
-        (";", (1, 1)),
-        ("input", (1, 1)),
-        ("input 17", (1, 1)),
-        ("input -1", (1, 1)),
-        ("input 1; input 17", (2, 1)),
-        ("state s value", (1, 1)),
-        ("on row", (1, 1)),
-        ("on timer", (1, 1)),
-        ("input 1; on timer", (2, 1)),
-        ("input 1; on row; on timer", (3, 1)),
-        ("input 1; on row; on row", (3, 1)),
-        ("input 1; on row; input 1", (3, 1)),
-        ("input 1; on row; end; state s value", (4, 1)),
-        ("input 1; on row; end; end", (4, 1)),
-        ("input 1; on row; end; emit 1", (4, 1)),
-        ("input 1; emit 1", (2, 1)),
-        ("input 1; emit 1 * 2", (2, 1)),
-        ("input 1; on row; else", (3, 1)),
-        ("input 1; on row; with", (3, 1)),
-        ("input 1; on row; emit", (3, 1)),
-        ("input 1; on row; emit 1 *", (3, 1)),
-        ("input 1; on row; emit 1 + X", (3, 1)),
-        ("input 1; on row; emit 9223372036854775808", (3, 1)),
-        (
-            "input 1; on row; emit 1 , 2 , 3 , 4 , 5 , 6 , 7 , 8 , 9 , 10 , 11 , 12 , 13 , 14 , 15 , 16 , 17",
-            (3, 1),
-        ),
-        ("input 1; state input value", (2, 1)),
-        ("input 1; state v1 value", (2, 1)),
-        ("input 1; state s number", (2, 1)),
-    ];
-    assert_eq!(rt; first_wrong(rt.alloc(), &cases), None);
-}
-
-#[test]
-fn lines_not_built_yet(rt: HostRuntime) {
-    let cases = [
-        ("input 1; state s list", (2, 13)),
-        ("input 1; state s map", (2, 13)),
-        ("input 1; state s value; state s list", (3, 13)),
-        ("input 1; on row; end; on timer", (4, 13)),
-        ("input 1; on row; emit 1 * 2", (3, 13)),
-        ("input 1; on row; emit 1 < 2", (3, 13)),
-        ("input 1; on row; emit ( 1 )", (3, 13)),
-        ("input 1; on row; emit wm", (3, 13)),
-        ("input 1; on row; emit x * 2", (3, 13)),
-        ("input 1; state s value; on row; emit s * 2", (4, 13)),
-        ("input 1; on row; let x = 1", (3, 13)),
-        ("input 1; on row; if 1", (3, 13)),
-        ("input 1; on row; both", (3, 13)),
-        ("input 1; on row; timer time", (3, 13)),
-        ("input 1; on row; clear s", (3, 13)),
-        ("input 1; on row; each x in s", (3, 13)),
-        ("input 1; on row; x = has s 1", (3, 13)),
-        ("input 1; on row; x = get s 1 or 2", (3, 13)),
-        ("input 1; state s value; on row; put s 1 , 2", (4, 13)),
-    ];
-    assert_eq!(rt; first_wrong(rt.alloc(), &cases), None);
-}
-
-#[test]
-fn other_faults(rt: HostRuntime) {
-    let cases = [
-        // A second line of its kind.
-        ("input 1; input 1", (2, 3)),
-        ("input 1; state s value; state s value", (3, 3)),
-        ("input 1; on row; end; on row", (4, 3)),
-        ("input 1; on row; end; input 2", (4, 3)),
-        // An unknown name.
-        ("input 1; on row; emit x", (3, 2)),
-        ("input 1; on row; x = get x or 0", (3, 2)),
-        ("input 1; on row; put x 1", (3, 2)),
-        ("input 1; state s value; on row; x = get s or x", (4, 2)),
-        ("input 1; state s value; on row; s = get t or 0", (4, 2)),
-        ("input 1; state s value; on row; emit s + x", (4, 2)),
-        ("input 1; on row; emit v0", (3, 2)),
-        ("input 1; on row; emit v01", (3, 2)),
-        ("input 1; on row; emit 1 , v2", (3, 2)),
-        ("input 16; on row; emit v17", (3, 2)),
-        // A state where a number is wanted, or the other way round.
-        ("input 1; state s value; on row; emit 1 + s", (4, 4)),
-        ("input 1; state s value; on row; s = get s or 0", (4, 4)),
-        (
-            "input 1; state s value; on row; x = get s or 0; put x 1",
-            (5, 4),
-        ),
-        (
-            "input 1; state s value; on row; x = get s or 0; y = get x or 0",
-            (5, 4),
-        ),
-        // Something is still due at the end.
-        ("", (1, 10)),
-        ("input 1", (2, 10)),
-        ("input 1; on row; emit 1", (4, 10)),
-        // The first of several.
-        ("input 1; on row; emit x; emit 1 * 2; on row", (3, 2)),
-    ];
-    assert_eq!(rt; first_wrong(rt.alloc(), &cases), None);
+fn first_faults(rt: HostRuntime) {
+    let alloc = rt.alloc();
+    assert_eq!(rt; first_wrong(alloc, WHOLE), None);
+    assert_eq!(rt; first_wrong(alloc, MISPLACED), None);
+    assert_eq!(rt; first_wrong(alloc, UNBUILT), None);
+    assert_eq!(rt; first_wrong(alloc, TWICE), None);
+    assert_eq!(rt; first_wrong(alloc, UNKNOWN), None);
+    assert_eq!(rt; first_wrong(alloc, WRONG_KIND), None);
+    assert_eq!(rt; first_wrong(alloc, DUE), None);
 }
 
 #[test]
@@ -222,11 +251,31 @@ fn with_states(alloc: Global, count: usize, last: &str) -> Result<(u64, u8), NoM
     fault_of(alloc, &lines, true)
 }
 
-// This many statements.
-fn with_statements(alloc: Global, count: usize) -> Result<(u64, u8), NoMemory> {
+// This many statements in `on row`, and this many in `on timer`.
+fn with_statements(alloc: Global, row: usize, timer: usize) -> Result<(u64, u8), NoMemory> {
     let mut lines = section(alloc, "input 1; on row")?;
-    for _n in 0..count {
+    for _n in 0..row {
         add_text(alloc, &mut lines, "emit v1")?;
+    }
+    add_text(alloc, &mut lines, "end")?;
+    add_text(alloc, &mut lines, "on timer")?;
+    for _n in 0..timer {
+        add_text(alloc, &mut lines, "timer wm")?;
+    }
+    add_text(alloc, &mut lines, "end")?;
+    fault_of(alloc, &lines, true)
+}
+
+// This many local names in `on row`, and this many in `on timer`.
+fn with_both_locals(alloc: Global, row: usize, timer: usize) -> Result<(u64, u8), NoMemory> {
+    let mut lines = section(alloc, "input 1; state s value; on row")?;
+    for n in 0..row {
+        add_numbered(alloc, &mut lines, "n", n, " = get s or 0")?;
+    }
+    add_text(alloc, &mut lines, "end")?;
+    add_text(alloc, &mut lines, "on timer")?;
+    for n in 0..timer {
+        add_numbered(alloc, &mut lines, "m", n, " = get s or 0")?;
     }
     add_text(alloc, &mut lines, "end")?;
     fault_of(alloc, &lines, true)
@@ -283,8 +332,13 @@ fn limits(rt: HostRuntime) {
         (with_numbers(alloc, 127, "x"), (4, 2)),
         (with_numbers(alloc, 127, "s"), (4, 4)),
         (with_numbers(alloc, 127, "1 * 1"), (4, 13)),
-        (with_statements(alloc, 10000), (0, 0)),
-        (with_statements(alloc, 10001), (10003, 8)),
+        (with_statements(alloc, 10000, 0), (0, 0)),
+        (with_statements(alloc, 10001, 0), (10003, 8)),
+        (with_statements(alloc, 6000, 4000), (0, 0)),
+        (with_statements(alloc, 6000, 4001), (10005, 8)),
+        (with_both_locals(alloc, 256, 256), (0, 0)),
+        (with_both_locals(alloc, 256, 257), (518, 8)),
+        (with_both_locals(alloc, 0, 257), (262, 8)),
     ];
     let mut at: usize = 0;
     for (found, expected) in cases.iter() {
@@ -311,20 +365,21 @@ fn stands(program: &Program, place: usize) -> (&'static str, usize) {
     }
 }
 
-#[test]
-fn a_program_as_steps(rt: HostRuntime) {
-    let alloc = rt.alloc();
-    let text =
-        "input 2; state a value; state b value; on row; x = get b or 0; put a x; emit x , 1; end";
-    let Ok(lines) = section(alloc, text) else {
-        assert!(&rt; false);
-        return;
-    };
+// The program of a text without fault.
+fn program_of(alloc: Global, text: &str) -> Option<Program> {
+    let lines = section(alloc, text).ok()?;
     let end = SectionEnd {
-        line: 9,
+        line: 99,
         found: true,
     };
-    let Ok(program) = read_program(alloc, &lines, end) else {
+    read_program(alloc, &lines, end).ok()
+}
+
+#[test]
+fn a_program_as_steps(rt: HostRuntime) {
+    let text =
+        "input 2; state a value; state b value; on row; x = get b or 0; put a x; emit x , 1; end";
+    let Some(program) = program_of(rt.alloc(), text) else {
         assert!(&rt; false);
         return;
     };
@@ -334,9 +389,39 @@ fn a_program_as_steps(rt: HostRuntime) {
     assert!(&rt; !program.has_timer());
     assert_eq!(rt; program.locals(), 1);
     assert_eq!(rt; program.first(), 3);
+    assert_eq!(rt; program.timer_first(), 0);
     assert_eq!(rt; stands(&program, 3), ("get", 2));
     assert_eq!(rt; stands(&program, 2), ("put", 1));
     assert_eq!(rt; stands(&program, 1), ("emit", 0));
     assert_eq!(rt; stands(&program, 0), ("nothing", 0));
     assert_eq!(rt; stands(&program, 4), ("nothing", 0));
+}
+
+#[test]
+fn two_handlers_as_steps(rt: HostRuntime) {
+    let text =
+        "input 0; state a value; on row; timer 5; end; on timer; untimer wm; y = get a or 0; z = get a or y; end";
+    let Some(program) = program_of(rt.alloc(), text) else {
+        assert!(&rt; false);
+        return;
+    };
+    assert!(&rt; program.has_timer());
+    assert_eq!(rt; program.locals(), 2);
+    assert_eq!(rt; program.first(), 1);
+    assert_eq!(rt; program.timer_first(), 4);
+    assert_eq!(rt; stands(&program, 1), ("timer", 0));
+    assert_eq!(rt; stands(&program, 4), ("untimer", 3));
+    assert_eq!(rt; stands(&program, 3), ("get", 2));
+    assert_eq!(rt; stands(&program, 2), ("get", 0));
+    assert_eq!(rt; stands(&program, 5), ("nothing", 0));
+}
+
+#[test]
+fn an_empty_timer_handler(rt: HostRuntime) {
+    let Some(program) = program_of(rt.alloc(), "input 0; on row; end; on timer; end") else {
+        assert!(&rt; false);
+        return;
+    };
+    assert!(&rt; program.has_timer());
+    assert_eq!(rt; program.timer_first(), 0);
 }

@@ -1,13 +1,19 @@
-use Rattle.std.proofs.Common.{◌≡◌, sym, subst, List, length, true}
+use Rattle.std.proofs.Common.{◌≡◌, ℕ, sym, subst, true}
 use Rattle.std.specs.List.{list_all}
 use Rattle.ax_state.specs.Decls.{kinds}
-use Rattle.ax_syntax.specs.Words.{Word}
+use Rattle.ax_lang.specs.Tables.{most_locals}
 use Rattle.ax_lang.specs.Steps.{stmt_fits}
 use Rattle.ax_lang.proofs.SoundLemmas.{stmts_fit}
 use Rattle.ax_lang.proofs.reader.finish.Goals as goal
 
-pub new-requires-in-Some-clause-row : goal.new-requires-in-Some-clause-row
-new-requires-in-Some-clause-row c =
+pub new-requires-clause-row : goal.new-requires-clause-row
+new-requires-clause-row c =
     let ks = kinds c.args.tables.states in
-    let ss = c.args.stmts.items in
-    subst (λ (ws : List Word). list_all (stmt_fits (length ws) ks) ss ≡ true) (sym c.as_slice-locals.ensures) (stmts_fit (length c.args.tables.locals) ks ss c.requires.fit)
+    let ss = c.args.handlers.row.items in
+    subst (λ (n : ℕ). list_all (stmt_fits n ks) ss ≡ true) (sym c.most_locals-locals.ensures) (stmts_fit (most_locals c.args.tables) ks ss c.requires.row)
+
+pub new-requires-clause-timer : goal.new-requires-clause-timer
+new-requires-clause-timer c =
+    let ks = kinds c.args.tables.states in
+    let ss = c.args.handlers.timer.items in
+    subst (λ (n : ℕ). list_all (stmt_fits n ks) ss ≡ true) (sym c.most_locals-locals.ensures) (stmts_fit (most_locals c.args.tables) ks ss c.requires.timer)
