@@ -1,3 +1,4 @@
+pub mod BoundLemmas
 pub mod FiringLemmas
 pub mod FrontLemmas
 pub mod KeyLemmas

@@ -69,6 +69,10 @@ ticking = record {
 abbrev pub ticks : List Event
 ticks = row_of (codes "a") (pos 1) (pos 2) ∷ Mark (pos 4) ∷ Mark (pos 5) ∷ []
 
+-- a watermark at which more timers fall due than may fire
+abbrev pub many_ticks : List Event
+many_ticks = row_of (codes "a") (pos 1) (pos 0) ∷ Mark (pos 100000) ∷ []
+
 -- x = get c or 0, put c x + v1, timer time; a timer does nothing
 abbrev pub lasting : Program
 lasting = record {

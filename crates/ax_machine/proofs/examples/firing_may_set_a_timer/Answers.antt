@@ -1,9 +1,8 @@
 use Rattle.std.proofs.Common.{refl}
-use Rattle.std.specs.Fmt.{digits}
 use Rattle.ax_text.specs.Exprs.{apply_op}
 use Rattle.ax_machine.specs.Firings.{most_firings}
-use Rattle.ax_machine.proofs.laws.block_by_group.Goals as goal
+use Rattle.ax_machine.proofs.examples.firing_may_set_a_timer.Goals as goal
 
 pub returns : goal.returns
-unfolding most_firings digits apply_op
+unfolding most_firings apply_op
 returns c = refl

@@ -1,6 +1,6 @@
 use Rattle.std.proofs.Common.{refl}
 use Rattle.ax_text.specs.Exprs.{apply_op}
-use Rattle.ax_machine.proofs.laws.counts_by_key.Goals as goal
+use Rattle.ax_machine.proofs.examples.counts_by_key.Goals as goal
 
 pub returns : goal.returns
 unfolding apply_op

@@ -1,0 +1,7 @@
+use Rattle.std.proofs.Common.{refl}
+use Rattle.ax_machine.specs.Firings.{most_firings}
+use Rattle.ax_machine.proofs.examples.late_timer_waits.Goals as goal
+
+pub returns : goal.returns
+unfolding most_firings
+returns c = refl

@@ -1,0 +1,57 @@
+//! Worked examples as laws: what the plain thread writes for small programs and events.
+ghost use Rattle.std.specs.Prelude.{◌≡◌, [], ◌∷◌, codes, pos};
+ghost use Rattle.ax_machine.specs.Entries.{Out};
+ghost use Rattle.ax_machine.specs.Events.{Mark, Barrier};
+ghost use Rattle.ax_machine.specs.Sync.{sync};
+ghost use Rattle.ax_machine.specs.Examples.{counting, clicks, line, alarm, late_alarm, same_alarm, three_alarms, ticking, ticks, many_ticks, lasting, saved, watermark, block};
+
+/// The counting program, over rows of two keys by turns.
+pub fn counts_by_key()
+    ensures { (sync 128 counting clicks).entries ≡ line (codes "a") (pos 5) ∷ line (codes "b") (pos 1) ∷ line (codes "a") (pos 12) ∷ [] }
+{}
+
+/// A timer that is set at or below the present watermark fires at the next greater one.
+pub fn late_timer_waits()
+    ensures { (sync 128 alarm late_alarm).entries
+        ≡ watermark (pos 5) ∷ Out (codes "a") (pos 1 ∷ pos 1 ∷ []) ∷ Out (codes "a") (pos 2 ∷ pos 3 ∷ pos 6 ∷ []) ∷ watermark (pos 6) ∷ [] }
+{}
+
+/// A timer that is set twice fires once.
+pub fn same_timer_fires_once()
+    ensures { (sync 128 alarm same_alarm).entries
+        ≡ Out (codes "a") (pos 1 ∷ pos 1 ∷ []) ∷ Out (codes "a") (pos 1 ∷ pos 2 ∷ []) ∷ Out (codes "a") (pos 2 ∷ pos 3 ∷ pos 6 ∷ []) ∷ watermark (pos 6) ∷ watermark (pos 7) ∷ [] }
+{}
+
+/// Due timers fire by time and then key, in whatever order they were set.
+pub fn timers_fire_in_order()
+    ensures { (sync 128 alarm three_alarms).entries
+        ≡ Out (codes "b") (pos 1 ∷ pos 1 ∷ []) ∷ Out (codes "a") (pos 1 ∷ pos 1 ∷ []) ∷ Out (codes "c") (pos 1 ∷ pos 1 ∷ [])
+        ∷ Out (codes "c") (pos 2 ∷ pos 2 ∷ pos 3 ∷ []) ∷ Out (codes "a") (pos 2 ∷ pos 3 ∷ pos 3 ∷ []) ∷ Out (codes "b") (pos 2 ∷ pos 3 ∷ pos 3 ∷ []) ∷ watermark (pos 3) ∷ [] }
+{}
+
+/// A timer that a firing sets at or below the watermark fires at that watermark too, and a later one waits.
+pub fn firing_may_set_a_timer()
+    ensures { (sync 128 ticking ticks).entries
+        ≡ line (codes "a") (pos 2) ∷ line (codes "a") (pos 3) ∷ line (codes "a") (pos 4) ∷ watermark (pos 4) ∷ line (codes "a") (pos 5) ∷ watermark (pos 5) ∷ [] }
+{}
+
+/// A key fires 65,536 times at one watermark and no more: of the timers from 0 on that its firings set, the next one is left.
+pub fn firings_have_a_bound()
+    ensures { ((sync 128 ticking many_ticks).map (codes "a")).times ≡ pos 65536 ∷ [] }
+{}
+
+/// A watermark that isn't greater than the last is skipped.
+pub fn lower_watermark_is_skipped()
+    ensures { (sync 128 alarm (Mark (pos 5) ∷ Mark (pos 5) ∷ Mark (pos 4) ∷ [])).entries ≡ watermark (pos 5) ∷ [] }
+{}
+
+/// The block of a barrier before any row and any watermark.
+pub fn empty_block()
+    ensures { (sync 128 alarm (Barrier (pos 1) ∷ [])).entries ≡ block (codes "s 1 -9223372036854775808" ∷ codes "e 1 0" ∷ []) ∷ [] }
+{}
+
+/// A block has its keys by group: `b` is of group 22 and `a` of group 81. A timer that fired is no longer there.
+pub fn block_by_group()
+    ensures { (sync 128 lasting saved).entries
+        ≡ watermark (pos 2) ∷ block (codes "s 1 2" ∷ codes "c b c 1" ∷ codes "c a c 12" ∷ codes "t a 3" ∷ codes "e 1 3" ∷ []) ∷ [] }
+{}
