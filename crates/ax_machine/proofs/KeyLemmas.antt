@@ -83,7 +83,7 @@ idle : (p : Program) (w : ℤ) (n : ℕ) (k : Key) (s : Said) → candidate w n 
 idle p w zero k s e = refl
 idle p w (suc n) k s e = none_fires p w (key_fires p w n) k s.state.times s e
 
-not_due : (p : Program) (w : ℤ) (n : ℕ) (k : Key) (s : Said) → due_of w k s.state.times ≡ None → key_fires p w n s ≡ s
+pub not_due : (p : Program) (w : ℤ) (n : ℕ) (k : Key) (s : Said) → due_of w k s.state.times ≡ None → key_fires p w n s ≡ s
 not_due p w zero k s e = refl
 not_due p w (suc n) k s e = none_fires p w (key_fires p w n) k s.state.times s e
 

@@ -4,4 +4,5 @@ pub mod FrontLemmas
 pub mod KeyLemmas
 pub mod LawfulLemmas
 pub mod RisingLemmas
+pub mod RowLemmas
 pub mod StepLemmas

@@ -1,13 +1,16 @@
 //! Laws over the definitions.
-ghost use Rattle.std.specs.Prelude.{◌≡◌, ℕ, List, Bool, ◌++◌};
+ghost use Rattle.std.specs.Prelude.{◌≡◌, ℕ, List, Bool, [], ◌++◌, false};
+ghost use Rattle.std.specs.Str.{bytes_eq};
+ghost use Rattle.std.specs.List.{list_any};
 ghost use Rattle.std.specs.List.Sorted.{IsStrictlySortedBy};
 ghost use Rattle.std.specs.Ordering.{int_cmp};
 ghost use Rattle.ax_keys.specs.Keys.{key_cmp};
-ghost use Rattle.ax_text.specs.Programs.{Program};
+ghost use Rattle.ax_text.specs.KeyStates.{fresh};
+ghost use Rattle.ax_text.specs.Programs.{Program, kinds_of};
 ghost use Rattle.ax_machine.specs.Entries.{Key, Entry};
-ghost use Rattle.ax_machine.specs.Events.{Event};
+ghost use Rattle.ax_machine.specs.Events.{Event, has_row};
 ghost use Rattle.ax_machine.specs.Sync.{Plain, plain_steps, sync, silent, behind};
-ghost use Rattle.ax_machine.specs.KeySync.{IsProjected};
+ghost use Rattle.ax_machine.specs.KeySync.{key_in, IsProjected};
 ghost use Rattle.ax_machine.specs.Lawful.{Lawful, LawfulSoFar, LawfulSoFarFor};
 
 /// What the plain thread writes is lawful: each list is lawful for itself.
@@ -41,4 +44,11 @@ pub fn keys_are_apart()
 pub fn keys_and_times_rise()
     ensures keys { (m : ℕ) (p : Program) (events : List Event) → IsStrictlySortedBy key_cmp (sync m p events).keys }
     ensures times { (m : ℕ) (p : Program) (events : List Event) (k : Key) → IsStrictlySortedBy int_cmp ((sync m p events).map k).times }
+{}
+
+/// The keys are those of the rows; of any other key the plain thread has and writes nothing. So a block misses no key.
+pub fn keys_are_those_of_rows()
+    ensures keys { (m : ℕ) (p : Program) (events : List Event) (k : Key) → list_any (bytes_eq k) (sync m p events).keys ≡ has_row k events }
+    ensures others { (m : ℕ) (p : Program) (events : List Event) (k : Key) → has_row k events ≡ false
+        → (key_in k (sync m p events)).said ≡ record { state = fresh (kinds_of p.states); lines = [] } }
 {}
