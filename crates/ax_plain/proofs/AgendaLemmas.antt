@@ -21,10 +21,10 @@ use Rattle.ax_text.specs.Times.{least_time, HasDue}
 use Rattle.ax_machine.specs.Entries.{Key}
 use Rattle.ax_machine.specs.Firings.{due_of, due_cmp, most_firings, candidate, next_due, one_less}
 use Rattle.ax_text.specs.KeyStates.{KeyState}
-use Rattle.ax_machine.proofs.FiringLemmas.{next_is, next_none_is, same_key as same_bytes}
+use Rattle.ax_machine.proofs.FiringLemmas.{next_is, next_none_is, key_is, one_less_own, one_less_other}
 use Rattle.ax_machine.specs.Firings as machine
 use Rattle.ax_plain.specs.declared.agenda.Due.{Due}
-use Rattle.ax_plain.specs.Agenda.{due, timer_of, order, firings_at, Lists, without, NoneFires, IsFirstDue, Puts, firings_left}
+use Rattle.ax_plain.specs.Agenda.{due, timer_of, order, firings_at, Lists, without, NoneFires, IsFirstDue, Puts, firings_left, HasSome}
 
 -- ---- the order of due timers
 
@@ -60,9 +60,6 @@ reversed Greater e = absurd (true≢false e)
 not_before : (a b : Due) → is_gt (order a b) ≡ false → is_lt (order b a) ≡ false
 not_before a b h = ap is_lt (order_total.antisymm b a) ∙ reversed (order a b) h
 
-same_key : (a b : Key) → bytes_eq a b ≡ true → a ≡ b
-same_key a b h = tells_apart exact_bytes a b (sym (texts_ties a b) ∙ h)
-
 bytes_turned : (a b : Key) → bytes_eq a b ≡ bytes_eq b a
 bytes_turned a b = texts_ties a b ∙ (eq_by_cmp_equiv nat_list_cmp_total).symm a b ∙ sym (texts_ties b a)
 
@@ -76,10 +73,6 @@ module _ (w : ℤ) where
     go : (b : Bool) → cond b (Some (record { time = t; key = k })) None ≡ Some c → c.key ≡ k
     go true e = ap (λ (o : Option machine.Due). (unwrap_or o c).key) (sym e)
     go false e = cc
-
-  timer_some : (n : ℕ) (k : Key) (ts : List ℤ) (c : machine.Due) → timer_of w n k ts ≡ Some c → 0 < n
-  timer_some zero k ts c h = cc
-  timer_some (suc n) k ts c h = omega arith
 
   -- it is known by the first time
   pub timer_at : ℕ → Key → Option ℤ → Option machine.Due
@@ -129,6 +122,21 @@ sum_after es es' d n rises is =
     let one : firings_left es' ≡ firings_left (insert_entry order es d n) = ap firings_left is in
     omega arith
 
+-- ---- some firing is left of each key
+
+pub some_behind : (es es' : List (Due × ℕ)) (d : Due) (o : Option ℕ) → HasSome es → ((n : ℕ) → o ≡ Some n → 0 < n)
+    → ((q : Due) → firings_at es' q ≡ cond (is_at (order d) q) o (firings_at es q)) → HasSome es'
+some_behind es es' d o some new is q n h = go (is_at (order d) q) (sym (is q) ∙ h) where
+  go : (b : Bool) → cond b o (firings_at es q) ≡ Some n → 0 < n
+  go true e = new n e
+  go false e = some q n e
+
+pub some_same : (es es' : List (Due × ℕ)) → es' ≡ es → HasSome es → HasSome es'
+some_same es es' e some = subst HasSome (sym e) some
+
+pub some_left : (left n : ℕ) → 0 < left → Some left ≡ Some n → 0 < n
+some_left left n some e = subst (λ (m : ℕ). 0 < m) (unsome left n e) some
+
 -- ---- what the agenda lists
 
 module _ (w : ℤ) where
@@ -163,7 +171,6 @@ module _ (w : ℤ) where
       record {
         is = own.0;
         left = own.1;
-        some = subst (λ (m : ℕ). 0 < m) own.1 (timer_some w (more d.key) d.key (times d.key) (due d) own.0);
         first = λ k c e. not_before d (of_machine c) (least (of_machine c) (subst (λ (o : Option ℕ). IsSome o) (sym (stands more times es lists k c e)) refl));
       }
 
@@ -205,7 +212,7 @@ module _ (w : ℤ) where
           gone true f h = none_some (firings_at es' q) m (left q ∙ ap (λ b. cond b None (firings_at es q)) f) h
           gone false f h =
               let was : firings_at es q ≡ Some m = sym (left q ∙ ap (λ b. cond b None (firings_at es q)) f) ∙ h in
-              let first : timer_of w (more q.key) q.key (times q.key) ≡ Some (due d) = subst (λ (k : Key). timer_of w (more k) k (times k) ≡ Some (due d)) (same_key d.key q.key e) ((lists d n).0 at).0 in
+              let first : timer_of w (more q.key) q.key (times q.key) ≡ Some (due d) = subst (λ (k : Key). timer_of w (more k) k (times k) ≡ Some (due d)) (key_is d.key q.key e) ((lists d n).0 at).0 in
               let same : d ≡ q = of_due d q (unsome (due d) (due q) (sym first ∙ ((lists q m).0 was).0)) in
               true≢false (sym (place_of d q same) ∙ f)
 
@@ -213,7 +220,7 @@ module _ (w : ℤ) where
   own_timer : (key : Key) (least : Option ℤ) (left : ℕ) (more : Key → ℕ) (times : Key → List ℤ) → more key ≡ left → least_time (times key) ≡ least
       → (q : Key) → bytes_eq key q ≡ true → timer_of w (more q) q (times q) ≡ timer_at w left key least
   own_timer key least left more times m t q e =
-      subst (λ (k : Key). timer_of w (more k) k (times k) ≡ timer_at w left key least) (same_key key q e)
+      subst (λ (k : Key). timer_of w (more k) k (times k) ≡ timer_at w left key least) (key_is key q e)
       (by_least w (more key) key (times key) ∙ (λ i. timer_at w (m i) key (t i)))
 
   -- a key of which no firing is left is not on the agenda
@@ -244,7 +251,7 @@ module _ (w : ℤ) where
           now = own_timer d.key least left more times m t q.key e ∙ is
 
           left_is : more q.key ≡ left
-          left_is = ap more (sym (same_key d.key q.key e)) ∙ m
+          left_is = ap more (sym (key_is d.key q.key e)) ∙ m
 
           there : (b : Bool) → is_at (order d) q ≡ b → firings_at es' q ≡ Some n → IsListed more times q n
           there true f h =
@@ -324,14 +331,11 @@ others_stay w key more more' times times' agenda m t lists = changed w key (with
     (λ q e. refl)
     (λ q n e. (λ h. absurd (not_there w key more times agenda lists q e n h), λ h. absurd (none_some w (timer_of w (without key more' q.key) q.key (times' q.key)) (due q) (ap (λ b. timer_of w (cond b 0 (more' q.key)) q.key (times' q.key)) e) h.0)))
 
-one_fewer : (k : Key) (more : Key → ℕ) (q : Key) → bytes_eq k q ≡ false → one_less more k q ≡ more q
-one_fewer k more q e = ap (λ b. cond b (more q - 1) (more q)) e
-
 -- the key fired: one firing less is left of it, and it has other times
 pub fired : (w : ℤ) (key : Key) (more : Key → ℕ) (times times' : Key → List ℤ) (agenda : List (Due × ℕ))
     → ((q : Key) → bytes_eq key q ≡ false → times' q ≡ times q)
     → Lists w (without key more) times agenda → Lists w (without key (one_less more key)) times' agenda
-fired w key more times times' agenda t lists = others_stay w key more (one_less more key) times times' agenda (one_fewer key more) t lists
+fired w key more times times' agenda t lists = others_stay w key more (one_less more key) times times' agenda (one_less_other more key) t lists
 
 -- the key that fired is put back with what is left
 pub put_back : (w : ℤ) (key : Key) (more : Key → ℕ) (times times' : Key → List ℤ) (n : ℕ) (least : Option ℤ) (agenda agenda' : List (Due × ℕ))
@@ -339,7 +343,7 @@ pub put_back : (w : ℤ) (key : Key) (more : Key → ℕ) (times times' : Key �
     → more key ≡ n → least ≡ least_time (times' key)
     → Lists w (without key more) times agenda → Puts w key least (n - 1) agenda agenda' → Lists w (one_less more key) times' agenda'
 put_back w key more times times' n least agenda agenda' t left first lists puts = puts (one_less more key) times' (fired w key more times times' agenda t lists)
-    (ap (λ b. cond b (more key - 1) (more key)) (same_bytes key) ∙ ap (λ (m : ℕ). m - 1) left) (sym first)
+    (one_less_own more key ∙ ap (λ (m : ℕ). m - 1) left) (sym first)
 
 -- ---- what fires next
 

@@ -1,1 +1,2 @@
 pub mod AgendaLemmas
+pub mod AgendaLoop

@@ -45,7 +45,6 @@ NoneFires w more times = (k : Key) → timer_of w (more k) k (times k) ≡ None
 pub record IsFirstDue (w : ℤ) (more : Key → ℕ) (times : Key → List ℤ) (d : Due) (n : ℕ) : Type 0 where
   pub is : timer_of w (more d.key) d.key (times d.key) ≡ Some (due d)
   pub left : more d.key ≡ n
-  pub some : 0 < n
   pub first : (k : Key) (c : machine.Due) → timer_of w (more k) k (times k) ≡ Some c → is_lt (due_cmp c (due d)) ≡ false
 
 -- the key that was not on the agenda stands there now, where it may fire: it has so many firings left, and this first timer
@@ -55,3 +54,7 @@ Puts w key least left old new = (more : Key → ℕ) (times : Key → List ℤ) 
 -- the firings left of all keys on the agenda
 abbrev pub firings_left : List (Due × ℕ) → ℕ
 firings_left agenda = sum_by (λ n. n) (values_of agenda)
+
+-- some firing is left of each key on the agenda
+abbrev pub HasSome : List (Due × ℕ) → Type 0
+HasSome agenda = (d : Due) (n : ℕ) → firings_at agenda d ≡ Some n → 0 < n

@@ -1,5 +1,5 @@
 //! The agenda of a watermark.
-ghost use Rattle.std.specs.Prelude.{◌≡◌, ◌≤◌, ◌+◌, ℕ, ℤ, List, IfOk, OnOk, OnErr, IfNone, IfSome};
+ghost use Rattle.std.specs.Prelude.{◌≡◌, ◌<◌, ◌≤◌, ◌+◌, ℕ, ℤ, List, IfOk, OnOk, OnErr, IfNone, IfSome};
 ghost use Rattle.ax_machine.specs.Firings.{most_firings};
 ghost use Rattle.ax_time.specs.Timers.{times_of};
 ghost use Rattle.ax_plain.specs.Agenda.{firings_left, IsFirstDue, Lists, NoneFires, Puts, without};
@@ -36,7 +36,11 @@ impl Model for Agenda {
 
     ghost Value = { List (Due × ℕ) };
 
+    ghost use Rattle.ax_plain.specs.Agenda.{HasSome};
+
     ghost view = { λ a. a.entries.entries };
+
+    ghost invariant = { λ a. HasSome a.entries.entries };
 }
 
 impl Agenda {
@@ -61,6 +65,7 @@ impl Agenda {
         ensures none { IfNone result ((w : ℤ) (more : List ℕ → ℕ) (times : List ℕ → List ℤ) → Lists w more times self.old → NoneFires w more times) }
         ensures next { IfSome result (λ r. (w : ℤ) (more : List ℕ → ℕ) (times : List ℕ → List ℤ) → Lists w more times self.old → IsFirstDue w more times r.0 r.1) }
         ensures rest { IfSome result (λ r. (w : ℤ) (more : List ℕ → ℕ) (times : List ℕ → List ℤ) → Lists w more times self.old → Lists w (without r.0.key more) times self.new) }
+        ensures some { IfSome result (λ r. 0 < r.1) }
         ensures count { IfSome result (λ r. firings_left self.new + r.1 ≡ firings_left self.old) }
         ensures same { IfNone result (self.new ≡ self.old) }
     {

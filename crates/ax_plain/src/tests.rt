@@ -36,7 +36,7 @@ fn timers_leave_by_time_and_then_by_key(rt: HostRuntime) -> Result<(), Fail> {
     let Some((c, left)) = second else {
         return Ok(());
     };
-    agenda.put(c.key.copy(alloc)?, Some(5), left - 1, 5)?;
+    agenda.put(c.key.copy(alloc)?, Some(5), left.saturating_sub(1), 5)?;
     assert!(&rt; is_at(&agenda.pop(), b'a', 4, 65_536));
     assert!(&rt; is_at(&agenda.pop(), b'c', 5, 65_535));
     agenda.put(c.key.copy(alloc)?, Some(6), 7, 5)?;

@@ -1,6 +1,6 @@
-use Rattle.std.proofs.Common.{◌≡◌, ◌<◌, ◌↔◌, ◌∙◌, ℕ, ℤ, List, [], length, Option, None, Some, IsSome, IfNone, IfSome, refl, sym, arith, ◌∷◌}
+use Rattle.std.proofs.Common.{◌≡◌, ◌<◌, ◌↔◌, ℕ, List, [], length, Option, None, Some, IsSome, IfNone, IfSome, refl, sym, arith, ◌∷◌}
 use Rattle.std.proofs.lemmas.Bool.{true≢false}
-use Rattle.ax_plain.proofs.AgendaLemmas.{none_fires, is_next, popped, listed_as}
+use Rattle.ax_plain.proofs.AgendaLemmas.{none_fires, is_next, popped, listed_as, some_behind, some_same}
 use Rattle.ax_plain.proofs.agenda.Agenda.pop.Goals as goal
 
 if_both : {X : Type 0} {P Q R : X → Type 0} (o : Option X) → ((x : X) → P x → Q x → R x) → IfSome o P → IfSome o Q → IfSome o R
@@ -26,3 +26,23 @@ pub returns-clause-rest : goal.returns-clause-rest
 returns-clause-rest c = if_both c.pop_first.result
     (λ r at left w more times lists. popped w more times c.self.inside.entries.entries c.pop_first.new.self.entries r.0 r.1 (listed_as w more times c.self.inside.entries.entries c.args.self.now c.self.view_is lists) at left.0)
     c.pop_first.ensures.value c.pop_first.ensures.updates
+
+never : (n : ℕ) → None ≡ Some n → ⊥
+never n e = cc
+
+if_some : {X : Type 0} {P Q : X → Type 0} (o : Option X) → ((x : X) → P x → Q x) → IfSome o P → IfSome o Q
+if_some None f p = tt
+if_some (Some x) f p = f x p
+
+by_some : {X Q : Type 0} {P : X → Type 0} {R : Type 0} (o : Option X) → ((x : X) → P x → Q) → (R → Q) → IfSome o P → IfNone o R → Q
+by_some None f g p r = g r
+by_some (Some x) f g p r = f x p
+
+pub returns-clause-some : goal.returns-clause-some
+returns-clause-some c = if_some c.pop_first.result (λ r at. c.self.invariant r.0 r.1 at) c.pop_first.ensures.value
+
+pub invariant_of-self : goal.invariant_of-self
+invariant_of-self c = by_some c.pop_first.result
+    (λ r left. some_behind c.self.inside.entries.entries c.pop_first.new.self.entries r.0 None c.self.invariant (λ n e. absurd (never n e)) left.0)
+    (λ same. some_same c.self.inside.entries.entries c.pop_first.new.self.entries same c.self.invariant)
+    c.pop_first.ensures.updates c.pop_first.ensures.unchanged

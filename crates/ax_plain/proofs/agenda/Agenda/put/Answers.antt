@@ -1,8 +1,8 @@
-use Rattle.std.proofs.Common.{rules, ◌≡◌, ◌∙◌, ◌≤◌, ◌<◌, ◌+◌, ℕ, ℤ, List, IfOk, OnOk, OnErr, Result, Ok, Err, Option, Some, None, to_z, of_z, w64, int_le, int_lt, true, false, cond, sym, ap, subst}
+use Rattle.std.proofs.Common.{rules, ◌≡◌, ◌∙◌, ◌≤◌, ◌<◌, ◌+◌, ℕ, List, OnOk, Result, Ok, Err, Some, None, to_z, of_z, w64, int_le, true, false, cond, sym, ap, subst}
 use Rattle.std.specs.BTreeMap.{is_at}
 use Rattle.ax_plain.specs.declared.agenda.Due.{Due}
-use Rattle.ax_plain.specs.Agenda.{Puts, due, order, firings_at, firings_left}
-use Rattle.ax_plain.proofs.AgendaLemmas.{stays_off, came, fires, no_time, none_left, too_late, timer_at, sum_after}
+use Rattle.ax_plain.specs.Agenda.{order, firings_at, firings_left}
+use Rattle.ax_plain.proofs.AgendaLemmas.{stays_off, came, fires, no_time, none_left, too_late, timer_at, sum_after, some_behind, some_same, some_left}
 use Rattle.ax_plain.proofs.agenda.Agenda.put.Goals as goal
 use Rattle.ax_plain.proofs.agenda.Agenda.put.Goals.{in-Ok, in-Err, then-left-eq0-via-then-left-eq0, then-left-eq0-via-else-left-eq0+then-time-w}
 
@@ -49,3 +49,11 @@ returns-clause-count c = elim c.match-insert.branch [
       (sum_after c.self.inside.entries.entries c.insert.new.self.entries _ c.args.left w.in-Ok.ensures.was_ordered w.in-Ok.ensures.entries))
   | in-Err w ↦ search rules
 ]
+
+pub invariant_of-self : goal.invariant_of-self
+invariant_of-self c =
+    let some : 0 < c.args.left = search rules in
+    elim c.match-insert.branch [
+      | in-Ok w ↦ some_behind c.self.inside.entries.entries c.insert.new.self.entries _ (Some c.args.left) c.self.invariant (λ n e. some_left c.args.left n some e) w.in-Ok.ensures.updates.0
+      | in-Err w ↦ some_same c.self.inside.entries.entries c.insert.new.self.entries w.in-Err.ensures.err c.self.invariant
+    ]
