@@ -1,0 +1,3 @@
+pub mod PlaceLemmas
+pub mod AddedLemmas
+pub mod SnapLemmas

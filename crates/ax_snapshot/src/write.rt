@@ -1,0 +1,93 @@
+//! Writes snapshot blocks.
+ghost use Rattle.std.specs.Prelude.{◌≡◌, ◌≤◌, length, map, IfOk, OnOk};
+ghost use Rattle.std.specs.List.{All, AllByRecursion};
+ghost use Rattle.std.specs.BTreeMap.{values};
+ghost use Rattle.ax_keys.specs.Groups.{IsMaximum};
+ghost use Rattle.ax_state.specs.Decls.{kinds, states_of};
+ghost use Rattle.ax_state.specs.KeyCells.{kinds_in};
+ghost use Rattle.ax_machine.specs.Blocks.{state_lines, timer_lines, part_lines, inner_lines, block_text};
+ghost use Rattle.ax_state.specs.KeyCells.{cells_of};
+ghost use Rattle.ax_snapshot.specs.Snaps.{part_in};
+ghost use Rattle.ax_snapshot.specs.Places.{placed_in};
+ghost use Rattle.ax_snapshot.specs.Added.{Adds};
+
+use crate::block::Block;
+use crate::place::{Place, place_keys};
+use crate::snapshot::{KeySnap, Snapshot};
+use ax_base::{Bytes, NoMemory};
+use ax_keys::Key;
+use ax_state::{Decl, Decls, KeyCells};
+use std::alloc::Global;
+use std::collections::BTreeMap;
+
+// Puts the lines of a key's states, in order of their declaration.
+fn put_states(
+    alloc: Global,
+    block: &mut Block,
+    key: &Key,
+    cells: &KeyCells,
+    decls: &[Decl],
+) -> Result<(), NoMemory>
+    requires few { length decls.now ≤ 256 }
+    requires fits { kinds_in cells.now ≡ kinds decls.now }
+    ensures { OnOk result (Adds block.old block.new (state_lines key.now 0 (states_of decls.now) (cells_of cells.now))) }
+{
+    for (state, decl) in decls.iter().enumerate() {
+        block.put_value(alloc, key, &decl.name, cells.value(state as u8))?;
+    }
+    Ok(())
+}
+
+// Puts the lines of a key's timers.
+fn put_timers(alloc: Global, block: &mut Block, key: &Key, times: &[i64]) -> Result<(), NoMemory>
+    ensures { OnOk result (Adds block.old block.new (timer_lines key.now times.now)) }
+{
+    for time in times {
+        block.put_timer(alloc, key, *time)?;
+    }
+    Ok(())
+}
+
+// Puts the lines of a key.
+fn put_key(alloc: Global, block: &mut Block, snap: &KeySnap, decls: &[Decl]) -> Result<(), NoMemory>
+    requires few { length decls.now ≤ 256 }
+    requires fits { kinds_in snap.now.cells ≡ kinds decls.now }
+    ensures { OnOk result (Adds block.old block.new (part_lines (states_of decls.now) (part_in snap.now))) }
+{
+    put_states(alloc, block, &snap.key, &snap.cells, decls)?;
+    put_timers(alloc, block, &snap.key, snap.timers.as_slice())
+}
+
+// Puts the lines of the keys, in order.
+fn put_keys(
+    alloc: Global,
+    block: &mut Block,
+    places: &BTreeMap<Place<'_>, &KeySnap>,
+    decls: &[Decl],
+) -> Result<(), NoMemory>
+    requires few { length decls.now ≤ 256 }
+    requires fits { AllByRecursion (λ snap. kinds_in snap.now.cells ≡ kinds decls.now) (values places.now) }
+    ensures { OnOk result (Adds block.old block.new (inner_lines (states_of decls.now) (placed_in places.now))) }
+{
+    for snap in places.values() {
+        put_key(alloc, block, snap, decls)?;
+    }
+    Ok(())
+}
+
+/// The block of a snapshot, where there are `m` key groups: the head, the lines of each key by key group and then by its
+/// bytes, and the end with their number. Of each key come its states in order of their declaration, of which an empty one
+/// has no line, and then its timers. Of a key that stands twice the last counts. `NoMemory` is the only fault.
+///
+/// Conditions: `m` is 1 to 32,768, and each key's states are of the declared kinds.
+pub fn write_snapshot(alloc: Global, s: &Snapshot, decls: &Decls, m: u16) -> Result<Bytes, NoMemory>
+    requires groups { IsMaximum m }
+    requires few { length decls.now ≤ 256 }
+    requires fits { All (λ k. kinds_in k.cells ≡ kinds decls.now) s.now.keys }
+    ensures { IfOk result (λ bytes. bytes ≡ block_text m (states_of decls.now) s.now.id s.now.wm (map part_in s.now.keys)) }
+{
+    let places = place_keys(alloc, s.keys.as_slice(), m)?;
+    let mut block = Block::begin(alloc, s)?;
+    put_keys(alloc, &mut block, &places, decls.as_slice())?;
+    block.end(alloc, s)
+}
