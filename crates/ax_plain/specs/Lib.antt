@@ -1,1 +1,3 @@
 pub mod Agenda
+pub mod Handler
+pub mod Plain

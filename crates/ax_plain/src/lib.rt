@@ -1,10 +1,13 @@
-//! The plain thread.
+//! The plain thread: each event is finished before the next is looked at, on one map of what each key has.
 //!
-//! - `agenda`: `Agenda`, the first timer of each key that may fire at a watermark.
+//! Only `PlainThread` is for the layer above. The module `handler` runs a handler on what one key has, and `agenda` has the
+//! first timer of each key that may fire at a watermark.
 #![tactic(auto)]
 
 pub mod agenda;
+pub mod handler;
+pub mod plain;
 #[cfg(test)]
 mod tests;
 
-pub use agenda::{Agenda, Due};
+pub use plain::PlainThread;

@@ -1,0 +1,176 @@
+-- A handler's run, one statement after another.
+use Rattle.std.proofs.Common.{◌≡◌, ℕ, ℤ, pos, ◌+◌, ◌<◌, ◌≤◌, ◌⊎◌, inl, inr, List, [], ◌∷◌, ◌++◌, Bool, true, false, cond, length, take, drop, map, nat_eq, replicate, slice_set, get_or, Option, Result, Ok, Err, OnErr, refl, sym, ap, ap₂, ◌∙◌, subst, arith, append_assoc}
+use Rattle.std.proofs.lemmas.Bool.{eqb-true, eqb-false, cases_lt}
+use Rattle.std.proofs.lemmas.List.{append-nil, take-append-drop, take_at, take_all, get_or-replicate, length-replicate, get_or_past, get_or-set_same, get_or-set_other}
+use Rattle.std.specs.Io.KnownBytes.{Appends}
+use Rattle.std.specs.Str.{bytes_eq}
+use mathlib.Core.Path.{fun_ext}
+use Rattle.ax_base.proofs.OutsideLemmas.{Appends-none, Appends-more}
+use Rattle.ax_text.specs.declared.vocabulary.TimerOp.{TimerOp}
+use Rattle.ax_text.specs.Functions.{upd}
+use Rattle.ax_text.specs.Exprs.{Facts, Names, value}
+use Rattle.ax_text.specs.Cells.{Cells}
+use Rattle.ax_text.specs.Texts.{Text, Stop, Act, Ask, Emit, Timer, Untimer}
+use Rattle.ax_text.specs.Run.{World, run, begun, act_in, ask_in, time_after, times_after}
+use Rattle.ax_time.specs.declared.timer.Timer.{Timer as CodeTimer}
+use Rattle.ax_time.specs.Timers.{times_of, PutsTimes}
+use Rattle.ax_time.proofs.KeptLemmas.{times_same}
+use Rattle.ax_machine.specs.Entries.{Key, Out, says, text_of, entry_text}
+use Rattle.ax_lang.specs.Rows.{Row, ActRow, AskRow, with_row}
+use Rattle.ax_plain.specs.Handler.{names_in, before, does_row, AppendsSome}
+use Rattle.ax_plain.proofs.TimesLemmas.{puts_then, puts_at, times_after_both}
+
+zero_at : (n i : ℕ) → (i < n) ⊎ (n ≤ i) → get_or (replicate n (pos 0)) i (pos 0) ≡ pos 0
+zero_at n i (inl h) = get_or-replicate n i (pos 0) (pos 0) h
+zero_at n i (inr h) = get_or_past (replicate n (pos 0)) i (pos 0) (omega (arith, length-replicate n (pos 0)))
+
+-- names that are all 0
+pub names_zero : (n : ℕ) → names_in (replicate n (pos 0)) ≡ (λ i. pos 0)
+names_zero n = fun_ext (λ i. zero_at n i (cases_lt i n))
+
+-- another number at one name
+pub names_set : (xs : List ℤ) (i : ℕ) (n : ℤ) → i < length xs → names_in (slice_set xs i n) ≡ upd (names_in xs) i n
+names_set xs i n h = fun_ext (λ j. by_place j (nat_eq i j) refl) where
+  by_place : (j : ℕ) (b : Bool) → nat_eq i j ≡ b → get_or (slice_set xs i n) j (pos 0) ≡ cond b n (get_or xs j (pos 0))
+  by_place j true e = ap (λ k. get_or (slice_set xs i n) k (pos 0)) (sym (eqb-true i j e)) ∙ get_or-set_same xs i n (pos 0) h
+  by_place j false e = get_or-set_other xs i j n (pos 0) (λ f. eqb-false i j e (sym f))
+
+abbrev pub world : Names → List (List ℤ) → List TimerOp → Cells → ℕ → World
+world names lines ops cells served = record { talk = record { names = names; lines = lines; ops = ops }; cells = cells; served = served }
+
+-- `whole` is what the run comes to; `rest` is still to run, the sink grew by the lines so far, and the key's timers are those
+-- behind what was done to them so far
+pub record GoneOn (f : Facts) (key : Key) (whole : World) (h0 h : Option (List ℕ)) (t0 t : List CodeTimer) (rest : Text) (names : Names) (cells : Cells) : Type 0 where
+  pub lines : List (List ℤ)
+  pub ops : List TimerOp
+  pub served : ℕ
+  pub grown : Appends h0 h (text_of (says key lines))
+  pub times : PutsTimes t0 t key (times_after ops (times_of t0 key))
+  pub same : run f rest (world names lines ops cells served) ≡ whole
+
+pub says_both : (key : Key) (xs ys : List (List ℤ)) → text_of (says key (xs ++ ys)) ≡ text_of (says key xs) ++ text_of (says key ys)
+says_both key [] ys = refl
+says_both key (x ∷ xs) ys = ap (λ t. entry_text (Out key x) ++ t) (says_both key xs ys) ∙ sym (append_assoc (entry_text (Out key x)) (text_of (says key xs)) (text_of (says key ys)))
+
+run_row : (f : Facts) (r : Row) (rest : Text) (w : World) → run f (with_row r rest) w ≡ run f rest (does_row f r w)
+run_row f (ActRow q) rest w = refl
+run_row f (AskRow a) rest w = refl
+
+served_after : Row → ℕ → ℕ
+served_after (ActRow q) n = n
+served_after (AskRow a) n = n + 1
+
+-- a statement does the same whatever was done before it
+does_more : (f : Facts) (r : Row) (names : Names) (lines : List (List ℤ)) (ops : List TimerOp) (cells : Cells) (n : ℕ)
+    → does_row f r (world names lines ops cells n)
+    ≡ world (does_row f r (before names cells)).talk.names (lines ++ (does_row f r (before names cells)).talk.lines) (ops ++ (does_row f r (before names cells)).talk.ops) (does_row f r (before names cells)).cells (served_after r n)
+unfolding served_after
+does_more f (ActRow (Emit values)) names lines ops cells n = ap (λ (o : List TimerOp). world names (lines ++ map (value f names) values ∷ []) o cells n) (sym (append-nil ops))
+does_more f (ActRow (Timer time)) names lines ops cells n = ap (λ (l : List (List ℤ)). world names l (ops ++ (does_row f (ActRow (Timer time)) (before names cells)).talk.ops) cells n) (sym (append-nil lines))
+does_more f (ActRow (Untimer time)) names lines ops cells n = ap (λ (l : List (List ℤ)). world names l (ops ++ (does_row f (ActRow (Untimer time)) (before names cells)).talk.ops) cells n) (sym (append-nil lines))
+does_more f (AskRow a) names lines ops cells n =
+    ap₂ (λ (l : List (List ℤ)) (o : List TimerOp). world (does_row f (AskRow a) (before names cells)).talk.names l o (does_row f (AskRow a) (before names cells)).cells (n + 1)) (sym (append-nil lines)) (sym (append-nil ops))
+
+pub start_gone_on : (f : Facts) (key : Key) (rest : Text) (h : Option (List ℕ)) (t : List CodeTimer) (names : Names) (cells : Cells) → names ≡ (λ i. pos 0) → GoneOn f key (run f rest (begun cells)) h h t t rest names cells
+start_gone_on f key rest h t names cells e = record {
+  lines = [];
+  ops = [];
+  served = 0;
+  grown = Appends-none h;
+  times = times_same t key (times_of t key) refl;
+  same = ap (λ (n : Names). run f rest (world n [] [] cells 0)) e;
+}
+
+pub GoneOn-row : (f : Facts) (key : Key) (whole : World) (h0 h h' : Option (List ℕ)) (t0 t t' : List CodeTimer) (r : Row) (text rest : Text) (names names' : Names) (cells cells' : Cells)
+    → GoneOn f key whole h0 h t0 t text names cells
+    → text ≡ with_row r rest
+    → names' ≡ (does_row f r (before names cells)).talk.names
+    → cells' ≡ (does_row f r (before names cells)).cells
+    → PutsTimes t t' key (times_after (does_row f r (before names cells)).talk.ops (times_of t key))
+    → Appends h h' (text_of (says key (does_row f r (before names cells)).talk.lines))
+    → GoneOn f key whole h0 h' t0 t' rest names' cells'
+GoneOn-row f key whole h0 h h' t0 t t' r text rest names names' cells cells' g te en ec p a =
+    let d : World = does_row f r (before names cells) in
+    let ops : List TimerOp = g.ops ++ d.talk.ops in
+    let times : times_after d.talk.ops (times_of t key) ≡ times_after ops (times_of t0 key) =
+    ap (times_after d.talk.ops) (puts_at t0 t key _ g.times) ∙ sym (times_after_both g.ops d.talk.ops (times_of t0 key)) in
+    record {
+      lines = g.lines ++ d.talk.lines;
+      ops = ops;
+      served = served_after r g.served;
+      grown = Appends-more h0 h h' _ _ _ g.grown a (sym (says_both key g.lines d.talk.lines));
+      times = puts_then t0 t t' key _ _ g.times (subst (PutsTimes t t' key) times p);
+      same = ap₂ (λ (n : Names) (c : Cells). run f rest (world n (g.lines ++ d.talk.lines) ops c (served_after r g.served))) en ec
+          ∙ sym (ap (run f rest) (does_more f r names g.lines g.ops cells g.served))
+          ∙ sym (run_row f r rest (world names g.lines g.ops cells g.served))
+          ∙ sym (ap (λ (t : Text). run f t (world names g.lines g.ops cells g.served)) te)
+          ∙ g.same;
+    }
+
+-- nothing is left to run
+pub GoneOn-end : (f : Facts) (key : Key) (whole : World) (h0 h : Option (List ℕ)) (t0 t : List CodeTimer) (rest : Text) (names : Names) (cells : Cells) → GoneOn f key whole h0 h t0 t rest names cells → rest ≡ Stop
+    → (cells ≡ whole.cells) × PutsTimes t0 t key (times_after whole.talk.ops (times_of t0 key)) × Appends h0 h (text_of (says key whole.talk.lines))
+GoneOn-end f key whole h0 h t0 t rest names cells g e =
+    let all : world names g.lines g.ops cells g.served ≡ whole = sym (ap (λ (t : Text). run f t (world names g.lines g.ops cells g.served)) e) ∙ g.same in
+    let P : World → Type 0 = λ w. Appends h0 h (text_of (says key w.talk.lines)) in
+    let Q : World → Type 0 = λ w. PutsTimes t0 t key (times_after w.talk.ops (times_of t0 key)) in
+    (ap (λ (w : World). w.cells) all, subst Q all g.times, subst P all g.grown)
+
+pub on_err : {T E P Q : Type 0} (r : Result T E) → OnErr r P → (P → Q) → OnErr r Q
+on_err (Ok x) p f = tt
+on_err (Err e) p f = f p
+
+-- what holds, holds at an error
+pub at_err : {T E P : Type 0} (r : Result T E) → P → OnErr r P
+at_err (Ok x) p = tt
+at_err (Err e) p = p
+
+-- nothing was written
+pub AppendsSome-none : (a : Option (List ℕ)) (x : List ℕ) → AppendsSome a a x
+AppendsSome-none a x = (0, Appends-none a)
+
+-- all was written
+pub AppendsSome-all : (a b : Option (List ℕ)) (x : List ℕ) → Appends a b x → AppendsSome a b x
+AppendsSome-all a b x p = (length x, subst (Appends a b) (sym (take_all (length x) x (omega arith))) p)
+
+-- these bytes, and then some of the next
+pub AppendsSome-behind : (a b c : Option (List ℕ)) (x y z all : List ℕ) → Appends a b x → AppendsSome b c y → x ++ (y ++ z) ≡ all → AppendsSome a c all
+AppendsSome-behind a b c x y z all p q e =
+    let first : List ℕ = x ++ take q.0 y in
+    let behind : List ℕ = drop q.0 y ++ z in
+    let split : first ++ behind ≡ all = append_assoc x (take q.0 y) behind ∙ ap (λ t. x ++ t) (sym (append_assoc (take q.0 y) (drop q.0 y) z) ∙ ap (λ t. t ++ z) (take-append-drop q.0 y)) ∙ e in
+    let same : take (length first) all ≡ first = ap (take (length first)) (sym split) ∙ take_at first behind (length first) refl in
+    (length first, Appends-more a b c x (take q.0 y) (take (length first) all) p q.1 (sym same))
+
+-- a run only adds lines
+pub adds_lines : (f : Facts) (t : Text) (w : World) → (more : List (List ℤ)) × ((run f t w).talk.lines ≡ w.talk.lines ++ more)
+adds_lines f Stop w = ([], sym (append-nil w.talk.lines))
+adds_lines f (Act (Emit values) t) w =
+    let further = adds_lines f t (act_in f (Emit values) w) in
+    let line : List ℤ = map (value f w.talk.names) values in
+    (line ∷ further.0, further.1 ∙ append_assoc w.talk.lines (line ∷ []) further.0)
+adds_lines f (Act (Timer time) t) w = let further = adds_lines f t (act_in f (Timer time) w) in (further.0, further.1)
+adds_lines f (Act (Untimer time) t) w = let further = adds_lines f t (act_in f (Untimer time) w) in (further.0, further.1)
+adds_lines f (Ask a t) w = let further = adds_lines f t (ask_in f a w) in (further.0, further.1)
+
+-- a statement failed: the sink took a prefix of what the whole run writes
+pub GoneOn-failed : (f : Facts) (key : Key) (whole : World) (h0 h h' : Option (List ℕ)) (t0 t : List CodeTimer) (r : Row) (text rest : Text) (names : Names) (cells : Cells)
+    → GoneOn f key whole h0 h t0 t text names cells
+    → text ≡ with_row r rest
+    → AppendsSome h h' (text_of (says key (does_row f r (before names cells)).talk.lines))
+    → AppendsSome h0 h' (text_of (says key whole.talk.lines))
+GoneOn-failed f key whole h0 h h' t0 t r text rest names cells g te a =
+    let d : World = does_row f r (before names cells) in
+    let next : World = world d.talk.names (g.lines ++ d.talk.lines) (g.ops ++ d.talk.ops) d.cells (served_after r g.served) in
+    let more = adds_lines f rest next in
+    let all : run f rest next ≡ whole =
+    sym (ap (run f rest) (does_more f r names g.lines g.ops cells g.served))
+    ∙ sym (run_row f r rest (world names g.lines g.ops cells g.served))
+    ∙ sym (ap (λ (t : Text). run f t (world names g.lines g.ops cells g.served)) te)
+    ∙ g.same in
+    let lines : g.lines ++ (d.talk.lines ++ more.0) ≡ whole.talk.lines =
+    sym (append_assoc g.lines d.talk.lines more.0) ∙ sym more.1 ∙ ap (λ (w : World). w.talk.lines) all in
+    AppendsSome-behind h0 h h' (text_of (says key g.lines)) (text_of (says key d.talk.lines)) (text_of (says key more.0)) (text_of (says key whole.talk.lines)) g.grown a
+    (ap (λ t. text_of (says key g.lines) ++ t) (sym (says_both key d.talk.lines more.0))
+    ∙ sym (says_both key g.lines (d.talk.lines ++ more.0))
+    ∙ ap (λ (l : List (List ℤ)). text_of (says key l)) lines)

@@ -1,0 +1,150 @@
+//! The plain thread: each event is finished before the next is looked at, on one map of what each key has.
+ghost use Rattle.std.specs.Prelude.{◌≡◌, ◌≤◌, ℕ, ℤ, List, Some, None, true, false, IfOk, OnOk, OnErr, IsSome};
+ghost use Rattle.std.specs.Io.KnownBytes.{Appends};
+ghost use Rattle.std.specs.BTreeMap.{get, keys};
+ghost use Rattle.std.specs.BTreeSet.{insert_key};
+ghost use Rattle.ax_keys.specs.Keys.{key_cmp};
+ghost use Rattle.ax_machine.specs.Entries.{text_of};
+ghost use Rattle.ax_machine.specs.Sync.{plain_start, row_step, knows, silent};
+ghost use Rattle.ax_lang.specs.Shown.{shown, kinds_in};
+ghost use Rattle.ax_plain.specs.Handler.{facts_in, HasSinkCause, AppendsSome};
+ghost use Rattle.ax_plain.specs.Plain.{plain_in, run_at, ThreadFits, IsAbsent};
+
+use crate::handler::{Room, RunFacts, run_handler};
+use ax_base::{Duplicate, NoMemory, Sink, SinkFault};
+use ax_keys::Key;
+use ax_lang::Program;
+use ax_machine::first_watermark;
+use ax_state::KeyCells;
+use ax_time::Timers;
+use std::alloc::Global;
+use std::collections::BTreeMap;
+
+/// The states of all keys that had a row.
+pub type States = BTreeMap<Key, KeyCells>;
+
+/// The plain thread: the greatest watermark so far, what each key has, and room for the run of one handler.
+#[derive(Drop)]
+pub struct PlainThread {
+    alloc: Global,
+    wm: i64,
+    states: States,
+    timers: Timers,
+    room: Room,
+}
+
+// What the handler of a row knows.
+fn row_facts<'a>(time: &i64, wm: &i64, values: &'a [i64]) -> RunFacts<'a>
+    ensures { facts_in result ≡ record { time = time.now; wm = wm.now; values = values.now } }
+{
+    RunFacts {
+        time: *time,
+        wm: *wm,
+        values,
+    }
+}
+
+impl PlainThread {
+    /// No key had a row yet. The room for the program's local names is taken here.
+    pub fn new(alloc: Global, program: &Program) -> Result<PlainThread, NoMemory>
+        ensures fits { IfOk result (λ thread. ThreadFits (kinds_in program.now) thread) }
+        ensures start { IfOk result (λ thread. plain_in (kinds_in program.now) thread ≡ plain_start (shown program.now)) }
+    {
+        Ok(PlainThread {
+            alloc,
+            wm: first_watermark(),
+            states: States::new(alloc),
+            timers: Timers::new(alloc),
+            room: Room::new(alloc, program.locals())?,
+        })
+    }
+
+    // Runs a row to its end, and writes each output line at once.
+    fn run_row<K: Sink>(
+        &mut self,
+        program: &Program,
+        key: &Key,
+        time: &i64,
+        values: &[i64],
+        out: &mut K,
+    ) -> Result<(), SinkFault>
+        requires { ThreadFits (kinds_in program.now) self.old }
+        ensures fits { OnOk result (ThreadFits (kinds_in program.now) self.new) }
+        ensures steps { OnOk result (plain_in (kinds_in program.now) self.new
+            ≡ silent (row_step (shown program.now) key.now time.now values.now (plain_in (kinds_in program.now) self.old))) }
+        ensures lines { OnOk result (Appends (K.holds out.old) (K.holds out.new)
+            (text_of (row_step (shown program.now) key.now time.now values.now (plain_in (kinds_in program.now) self.old)).entries)) }
+        ensures part { OnErr result (AppendsSome (K.holds out.old) (K.holds out.new)
+            (text_of (row_step (shown program.now) key.now time.now values.now (plain_in (kinds_in program.now) self.old)).entries)) }
+        ensures faults { K.faults out.old ≤ K.faults out.new }
+        ensures short { K.short out.old ≤ K.short out.new }
+        ensures cause { HasSinkCause (K.faults out.old) (K.faults out.new) result }
+    {
+        let facts = row_facts(time, &self.wm, values);
+        if self.run_held(program, program.first(), key, &facts, out)? {
+            return Ok(());
+        }
+        let Ok(()) = self.hold(program, key) else {
+            return Err(SinkFault::NoMemory);
+        };
+        self.run_held(program, program.first(), key, &facts, out)?;
+        Ok(())
+    }
+
+    // Holds a key of which nothing was held so far. After an error nothing has changed.
+    fn hold(&mut self, program: &Program, key: &Key) -> Result<(), NoMemory>
+        requires fits { ThreadFits (kinds_in program.now) self.old }
+        requires absent { get key_cmp self.old.states key.now ≡ None }
+        ensures fits { OnOk result (ThreadFits (kinds_in program.now) self.new) }
+        ensures knows { OnOk result (plain_in (kinds_in program.now) self.new ≡ knows key.now (plain_in (kinds_in program.now) self.old)) }
+        ensures held { OnOk result (IsSome (get key_cmp self.new.states key.now)) }
+    {
+        let cells = KeyCells::new(self.alloc, program.decls())?;
+        let key = key.copy(self.alloc)?;
+        match self.states.insert(key, cells) {
+            Ok(_) => Ok(()),
+            Err(_) => Err(NoMemory),
+        }
+    }
+
+    // Runs what stands from a place on, on what is held of a key. The answer is false exactly where nothing is held of it;
+    // then nothing has happened.
+    fn run_held<K: Sink>(
+        &mut self,
+        program: &Program,
+        place: usize,
+        key: &Key,
+        facts: &RunFacts<'_>,
+        out: &mut K,
+    ) -> Result<bool, SinkFault>
+        requires { ThreadFits (kinds_in program.now) self.old }
+        ensures fits { OnOk result (ThreadFits (kinds_in program.now) self.new) }
+        ensures absent { IfOk result (λ held. held ≡ false → IsAbsent (kinds_in program.now) key.now self.old self.new (K.holds out.old) (K.holds out.new)) }
+        ensures held { IfOk result (λ held. held ≡ true → insert_key key_cmp (keys self.old.states) key.now ≡ keys self.old.states) }
+        ensures present { IfOk result (λ held. IsSome (get key_cmp self.old.states key.now) → held ≡ true) }
+        ensures steps { IfOk result (λ held. held ≡ true → plain_in (kinds_in program.now) self.new
+            ≡ silent (run_at program.now place facts.now key.now (plain_in (kinds_in program.now) self.old))) }
+        ensures lines { IfOk result (λ held. held ≡ true → Appends (K.holds out.old) (K.holds out.new)
+            (text_of (run_at program.now place facts.now key.now (plain_in (kinds_in program.now) self.old)).entries)) }
+        ensures part { OnErr result (AppendsSome (K.holds out.old) (K.holds out.new)
+            (text_of (run_at program.now place facts.now key.now (plain_in (kinds_in program.now) self.old)).entries)) }
+        ensures faults { K.faults out.old ≤ K.faults out.new }
+        ensures short { K.short out.old ≤ K.short out.new }
+        ensures cause { HasSinkCause (K.faults out.old) (K.faults out.new) result }
+    {
+        let Some(cells) = self.states.get_mut(key) else {
+            return Ok(false);
+        };
+        run_handler(
+            &mut self.room,
+            program,
+            place,
+            key,
+            facts,
+            cells,
+            &mut self.timers,
+            out,
+        )?;
+        Ok(true)
+    }
+}
