@@ -1,5 +1,5 @@
 pub mod AgendaLemmas
-pub mod AgendaLoop
+pub mod FireLemmas
 pub mod RunLemmas
 pub mod ThreadLemmas
 pub mod TimesLemmas

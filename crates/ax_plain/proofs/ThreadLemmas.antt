@@ -133,3 +133,7 @@ wrote_some h h' h'' s s' e f a =
     let P : Option (List ℕ) → Type 0 = λ x. AppendsSome x h'' (text_of s'.entries) in
     let Q : Plain → Type 0 = λ x. AppendsSome h' h'' (text_of x.entries) in
     subst P e (subst Q f a)
+
+pub on_ok : {T E P Q : Type 0} (r : Result T E) → OnOk r P → (P → Q) → OnOk r Q
+on_ok (Ok x) p f = f p
+on_ok (Err e) p f = tt

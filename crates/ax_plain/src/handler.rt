@@ -10,7 +10,7 @@ ghost use Rattle.ax_text.specs.Cells.{answer_of};
 ghost use Rattle.ax_text.specs.Texts.{Emit, Get, Put};
 ghost use Rattle.ax_text.specs.Times.{insert_time, remove_time};
 ghost use Rattle.ax_text.specs.Run.{number_or, times_after};
-ghost use Rattle.ax_machine.specs.Entries.{Out, says, text_of, entry_text, numbers_text};
+ghost use Rattle.ax_machine.specs.Entries.{Out, says, text_of, entry_text, numbers_text, marker_text, Watermark};
 ghost use Rattle.ax_state.specs.Fits.{has_kind};
 ghost use Rattle.ax_state.specs.KeyCells.{cells_of, kinds_in};
 ghost use Rattle.ax_time.specs.Timers.{PutsTimes, times_of};
@@ -58,6 +58,24 @@ impl Room {
             names,
             text: Vec::new(alloc),
         })
+    }
+
+    /// The text becomes the line of a watermark.
+    pub fn put_mark(&mut self, time: &i64) -> Result<(), NoMemory>
+        ensures { OnOk result (self.new.text.items ≡ marker_text (Watermark time.now)) }
+    {
+        let mut digits = Buffer::new();
+        self.text.clear();
+        put_bytes(&mut self.text, b"w ")?;
+        put_bytes(&mut self.text, digits.format(*time).as_bytes())?;
+        put_bytes(&mut self.text, b"\n")
+    }
+
+    /// The text of the line that was put last.
+    pub fn text(&self) -> &[u8]
+        ensures { result.now ≡ self.now.text.items }
+    {
+        self.text.as_slice()
     }
 
     // A handler begins: each of its local names is 0.

@@ -5,6 +5,7 @@
 #![tactic(auto)]
 
 pub mod agenda;
+mod firing;
 pub mod handler;
 pub mod plain;
 #[cfg(test)]

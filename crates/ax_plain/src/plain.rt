@@ -26,15 +26,15 @@ pub type States = BTreeMap<Key, KeyCells>;
 /// The plain thread: the greatest watermark so far, what each key has, and room for the run of one handler.
 #[derive(Drop)]
 pub struct PlainThread {
-    alloc: Global,
-    wm: i64,
-    states: States,
-    timers: Timers,
-    room: Room,
+    pub(crate) alloc: Global,
+    pub(crate) wm: i64,
+    pub(crate) states: States,
+    pub(crate) timers: Timers,
+    pub(crate) room: Room,
 }
 
-// What the handler of a row knows.
-fn row_facts<'a>(time: &i64, wm: &i64, values: &'a [i64]) -> RunFacts<'a>
+// What the run of a handler knows.
+pub(crate) fn run_facts<'a>(time: &i64, wm: &i64, values: &'a [i64]) -> RunFacts<'a>
     ensures { facts_in result ≡ record { time = time.now; wm = wm.now; values = values.now } }
 {
     RunFacts {
@@ -80,7 +80,7 @@ impl PlainThread {
         ensures short { K.short out.old ≤ K.short out.new }
         ensures cause { HasSinkCause (K.faults out.old) (K.faults out.new) result }
     {
-        let facts = row_facts(time, &self.wm, values);
+        let facts = run_facts(time, &self.wm, values);
         if self.run_held(program, program.first(), key, &facts, out)? {
             return Ok(());
         }
@@ -109,7 +109,7 @@ impl PlainThread {
 
     // Runs what stands from a place on, on what is held of a key. The answer is false exactly where nothing is held of it;
     // then nothing has happened.
-    fn run_held<K: Sink>(
+    pub(crate) fn run_held<K: Sink>(
         &mut self,
         program: &Program,
         place: usize,

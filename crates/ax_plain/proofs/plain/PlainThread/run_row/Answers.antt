@@ -13,19 +13,19 @@ pub returns-in_err-run_held-2-clause-part : goal.returns-in_err-run_held-2-claus
 returns-in_err-run_held-2-clause-part g c =
     let absent = c.in_ok-run_held.ensures.absent c.if-branch.false in
     let kinds = kinds_in c.args.program.now in
-    let step = row_is c.args.program.now c.first-2.result c.row_facts-facts.result c.args.key.now c.args.time.now c.args.values.now
-    (plain_in kinds c.args.self.now) (plain_in kinds c.hold.new.self) c.row_facts-facts.ensures c.first-2.ensures
+    let step = row_is c.args.program.now c.first-2.result c.run_facts-facts.result c.args.key.now c.args.time.now c.args.values.now
+    (plain_in kinds c.args.self.now) (plain_in kinds c.hold.new.self) c.run_facts-facts.ensures c.first-2.ensures
     (c.in-Ok.ensures.knows ∙ ap (knows c.args.key.now) absent.same) in
     at_err c.from_residual-in_err-run_held-2.result (wrote_some (g.K.Sink.holds c.args.out.now) (g.K.Sink.holds c.run_held.new.out) (g.K.Sink.holds c.run_held-2.new.out)
-    (run_at c.args.program.now c.first-2.result c.row_facts-facts.result c.args.key.now (plain_in kinds c.hold.new.self))
+    (run_at c.args.program.now c.first-2.result c.run_facts-facts.result c.args.key.now (plain_in kinds c.hold.new.self))
     (row_step (shown c.args.program.now) c.args.key.now c.args.time.now c.args.values.now (plain_in kinds c.args.self.now)) absent.silent step c.in_err-run_held-2.ensures.part)
 
 pub returns-clause-steps : goal.returns-clause-steps
 returns-clause-steps g c =
     let absent = c.in_ok-run_held.ensures.absent c.if-branch.false in
     let kinds = kinds_in c.args.program.now in
-    let step = row_is c.args.program.now c.first-2.result c.row_facts-facts.result c.args.key.now c.args.time.now c.args.values.now
-    (plain_in kinds c.args.self.now) (plain_in kinds c.hold.new.self) c.row_facts-facts.ensures c.first-2.ensures
+    let step = row_is c.args.program.now c.first-2.result c.run_facts-facts.result c.args.key.now c.args.time.now c.args.values.now
+    (plain_in kinds c.args.self.now) (plain_in kinds c.hold.new.self) c.run_facts-facts.ensures c.first-2.ensures
     (c.in-Ok.ensures.knows ∙ ap (knows c.args.key.now) absent.same) in
     let ran = c.in_ok-run_held-2.ensures in
     ran.steps (ran.present c.in-Ok.ensures.held) ∙ ap silent step
@@ -34,10 +34,10 @@ pub returns-clause-lines : goal.returns-clause-lines
 returns-clause-lines g c =
     let absent = c.in_ok-run_held.ensures.absent c.if-branch.false in
     let kinds = kinds_in c.args.program.now in
-    let step = row_is c.args.program.now c.first-2.result c.row_facts-facts.result c.args.key.now c.args.time.now c.args.values.now
-    (plain_in kinds c.args.self.now) (plain_in kinds c.hold.new.self) c.row_facts-facts.ensures c.first-2.ensures
+    let step = row_is c.args.program.now c.first-2.result c.run_facts-facts.result c.args.key.now c.args.time.now c.args.values.now
+    (plain_in kinds c.args.self.now) (plain_in kinds c.hold.new.self) c.run_facts-facts.ensures c.first-2.ensures
     (c.in-Ok.ensures.knows ∙ ap (knows c.args.key.now) absent.same) in
     let ran = c.in_ok-run_held-2.ensures in
     wrote_all (g.K.Sink.holds c.args.out.now) (g.K.Sink.holds c.run_held.new.out) (g.K.Sink.holds c.run_held-2.new.out)
-    (run_at c.args.program.now c.first-2.result c.row_facts-facts.result c.args.key.now (plain_in kinds c.hold.new.self))
+    (run_at c.args.program.now c.first-2.result c.run_facts-facts.result c.args.key.now (plain_in kinds c.hold.new.self))
     (row_step (shown c.args.program.now) c.args.key.now c.args.time.now c.args.values.now (plain_in kinds c.args.self.now)) absent.silent step (ran.lines (ran.present c.in-Ok.ensures.held))

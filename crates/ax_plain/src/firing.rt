@@ -1,0 +1,130 @@
+//! Watermarks: what is due fires, and the watermark is written.
+ghost use Rattle.std.specs.Prelude.{◌≡◌, ◌≤◌, ℕ, List, Some, true, OnOk, OnErr, int_lt};
+ghost use Rattle.std.specs.Io.KnownBytes.{Appends};
+ghost use Rattle.ax_text.specs.Times.{least_time};
+ghost use Rattle.ax_time.specs.Timers.{times_of};
+ghost use Rattle.ax_machine.specs.Entries.{Watermark, text_of};
+ghost use Rattle.ax_machine.specs.Sync.{all_fired, at_watermark, fire, silent, watermark_step, writes};
+ghost use Rattle.ax_lang.specs.Shown.{shown, kinds_in};
+ghost use Rattle.ax_plain.specs.Agenda.{due};
+ghost use Rattle.ax_plain.specs.Handler.{HasSinkCause, AppendsSome};
+ghost use Rattle.ax_plain.specs.Plain.{plain_in, ThreadFits};
+
+use crate::agenda::{Agenda, Due};
+use crate::plain::{PlainThread, run_facts};
+use ax_base::{Sink, SinkFault, write_all};
+use ax_lang::Program;
+
+impl PlainThread {
+    // A watermark that is greater than the last comes, and all that is due fires before it is written. Any other is skipped.
+    pub(crate) fn pass_watermark<K: Sink>(
+        &mut self,
+        program: &Program,
+        time: &i64,
+        out: &mut K,
+    ) -> Result<(), SinkFault>
+        requires { ThreadFits (kinds_in program.now) self.old }
+        ensures fits { OnOk result (ThreadFits (kinds_in program.now) self.new) }
+        ensures steps { OnOk result (plain_in (kinds_in program.now) self.new
+            ≡ silent (watermark_step (shown program.now) time.now (plain_in (kinds_in program.now) self.old))) }
+        ensures lines { OnOk result (Appends (K.holds out.old) (K.holds out.new)
+            (text_of (watermark_step (shown program.now) time.now (plain_in (kinds_in program.now) self.old)).entries)) }
+        ensures part { OnErr result (AppendsSome (K.holds out.old) (K.holds out.new)
+            (text_of (watermark_step (shown program.now) time.now (plain_in (kinds_in program.now) self.old)).entries)) }
+        ensures faults { K.faults out.old ≤ K.faults out.new }
+        ensures short { K.short out.old ≤ K.short out.new }
+        ensures cause { HasSinkCause (K.faults out.old) (K.faults out.new) result }
+    {
+        if self.wm < *time {
+            self.pass_greater(program, time, out)
+        } else {
+            Ok(())
+        }
+    }
+
+    // The watermark is this one now, all that is due fires, and the watermark is written.
+    fn pass_greater<K: Sink>(
+        &mut self,
+        program: &Program,
+        time: &i64,
+        out: &mut K,
+    ) -> Result<(), SinkFault>
+        requires { ThreadFits (kinds_in program.now) self.old }
+        ensures fits { OnOk result (ThreadFits (kinds_in program.now) self.new) }
+        ensures steps { OnOk result (plain_in (kinds_in program.now) self.new
+            ≡ silent (all_fired (shown program.now) (at_watermark time.now (plain_in (kinds_in program.now) self.old)))) }
+        ensures lines { OnOk result (Appends (K.holds out.old) (K.holds out.new)
+            (text_of (writes (Watermark time.now) (all_fired (shown program.now) (at_watermark time.now (plain_in (kinds_in program.now) self.old)))).entries)) }
+        ensures part { OnErr result (AppendsSome (K.holds out.old) (K.holds out.new)
+            (text_of (writes (Watermark time.now) (all_fired (shown program.now) (at_watermark time.now (plain_in (kinds_in program.now) self.old)))).entries)) }
+        ensures faults { K.faults out.old ≤ K.faults out.new }
+        ensures short { K.short out.old ≤ K.short out.new }
+        ensures cause { HasSinkCause (K.faults out.old) (K.faults out.new) result }
+    {
+        self.wm = *time;
+        self.fire_due(program, time, out)?;
+        let Ok(()) = self.room.put_mark(time) else {
+            return Err(SinkFault::NoMemory);
+        };
+        write_all(out, self.room.text())
+    }
+
+    // All timers that are due at the watermark, which is this time, fire by time and then by key.
+    fn fire_due<K: Sink>(
+        &mut self,
+        program: &Program,
+        time: &i64,
+        out: &mut K,
+    ) -> Result<(), SinkFault>
+        requires fits { ThreadFits (kinds_in program.now) self.old }
+        requires mark { self.old.wm ≡ time.now }
+        ensures fits { OnOk result (ThreadFits (kinds_in program.now) self.new) }
+        ensures steps { OnOk result (plain_in (kinds_in program.now) self.new
+            ≡ silent (all_fired (shown program.now) (plain_in (kinds_in program.now) self.old))) }
+        ensures lines { OnOk result (Appends (K.holds out.old) (K.holds out.new)
+            (text_of (all_fired (shown program.now) (plain_in (kinds_in program.now) self.old)).entries)) }
+        ensures part { OnErr result (AppendsSome (K.holds out.old) (K.holds out.new)
+            (text_of (all_fired (shown program.now) (plain_in (kinds_in program.now) self.old)).entries)) }
+        ensures faults { K.faults out.old ≤ K.faults out.new }
+        ensures short { K.short out.old ≤ K.short out.new }
+        ensures cause { HasSinkCause (K.faults out.old) (K.faults out.new) result }
+    {
+        let Ok(mut agenda) = Agenda::begin(self.alloc, &self.timers, *time) else {
+            return Err(SinkFault::NoMemory);
+        };
+        'due: while let Some((timer, left)) = agenda.pop() {
+            self.fire(program, &timer, out)?;
+            let least = self.timers.least_of(&timer.key);
+            let Ok(()) = agenda.put(timer.key, least, left - 1, *time) else {
+                return Err(SinkFault::NoMemory);
+            };
+        }
+        Ok(())
+    }
+
+    // The first timer of a key is taken off, and the key's handler runs.
+    fn fire<K: Sink>(
+        &mut self,
+        program: &Program,
+        timer: &Due,
+        out: &mut K,
+    ) -> Result<(), SinkFault>
+        requires fits { ThreadFits (kinds_in program.now) self.old }
+        requires first { least_time (times_of self.old.timers timer.now.key) ≡ Some timer.now.time }
+        ensures fits { OnOk result (ThreadFits (kinds_in program.now) self.new) }
+        ensures steps { OnOk result (plain_in (kinds_in program.now) self.new
+            ≡ silent (fire (shown program.now) (due timer.now) (plain_in (kinds_in program.now) self.old))) }
+        ensures lines { OnOk result (Appends (K.holds out.old) (K.holds out.new)
+            (text_of (fire (shown program.now) (due timer.now) (plain_in (kinds_in program.now) self.old)).entries)) }
+        ensures part { OnErr result (AppendsSome (K.holds out.old) (K.holds out.new)
+            (text_of (fire (shown program.now) (due timer.now) (plain_in (kinds_in program.now) self.old)).entries)) }
+        ensures faults { K.faults out.old ≤ K.faults out.new }
+        ensures short { K.short out.old ≤ K.short out.new }
+        ensures cause { HasSinkCause (K.faults out.old) (K.faults out.new) result }
+    {
+        self.timers.take_least(&timer.key);
+        let facts = run_facts(&timer.time, &self.wm, &[]);
+        self.run_held(program, program.timer_first(), &timer.key, &facts, out)?;
+        Ok(())
+    }
+}
