@@ -23,6 +23,7 @@ pub struct Program {
     row: usize,
     timer: Option<usize>,
     ghost few_fields: { fields ≤ 16 },
+    ghost few_states: { length decls ≤ 64 },
     ghost few_locals: { locals ≤ 256 },
     ghost fits: { steps_fit locals (kinds decls) 0 steps.items ≡ true },
 }
@@ -32,7 +33,7 @@ impl Program {
 
     /// The program of these statements; those of `on timer` count where there is one.
     ///
-    /// Conditions: at most 16 values and 256 local names, and each statement's local name and state exist.
+    /// Conditions: at most 16 values, 64 states and 256 local names, and each statement's local name and state exist.
     #[tactic(auto, unfolding(crate::specs::Shown::shown))]
     pub fn new(
         alloc: Global,
@@ -43,6 +44,7 @@ impl Program {
         has_timer: bool,
     ) -> Result<Program, NoMemory>
         requires fields { fields ≤ 16 }
+        requires states { length decls ≤ 64 }
         requires locals { locals ≤ 256 }
         requires row { list_all (stmt_fits locals (kinds decls)) handlers.row.items ≡ true }
         requires timer { list_all (stmt_fits locals (kinds decls)) handlers.timer.items ≡ true }
@@ -70,11 +72,12 @@ impl Program {
         self.fields
     }
 
-    /// The declared states, in order.
+    /// The declared states, in order, at most 64.
     #[tactic(auto, unfolding(crate::specs::Shown::shown), using(crate::proofs::StepLemmas::kinds_shown))]
     pub fn decls(&self) -> &Decls
         ensures states { states_of result.now ≡ (shown self.now).states }
         ensures kinds { kinds result.now ≡ kinds_in self.now }
+        ensures few { length result.now ≤ 64 }
     {
         &self.decls
     }
