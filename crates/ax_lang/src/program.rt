@@ -2,9 +2,8 @@
 ghost use Rattle.std.specs.Prelude.{◌≡◌, ◌≤◌, ◌++◌, ◌∷◌, [], length, map, true, is_some, slice_get, IfOk, OnOk, None};
 ghost use Rattle.std.specs.List.{list_all};
 ghost use Rattle.std.specs.Option.{option_copied};
-ghost use Rattle.ax_text.specs.Programs.{program_width};
+ghost use Rattle.ax_text.specs.Programs.{text_or_stop, program_width};
 ghost use Rattle.ax_state.specs.Decls.{kinds, states_of};
-ghost use Rattle.ax_text.specs.Programs.{text_or_stop};
 ghost use Rattle.ax_lang.specs.Rows.{text_of, text_if};
 ghost use Rattle.ax_lang.specs.Steps.{row_in, text_at, text_some, GoesOn, stmt_fits, steps_fit, FitsWith};
 
