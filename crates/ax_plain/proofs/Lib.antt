@@ -1,4 +1,5 @@
 pub mod AgendaLemmas
+pub mod BlockLemmas
 pub mod FireLemmas
 pub mod RunLemmas
 pub mod ThreadLemmas

@@ -1,3 +1,4 @@
 pub mod Agenda
 pub mod Handler
 pub mod Plain
+pub mod Snaps

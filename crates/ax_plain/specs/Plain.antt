@@ -17,6 +17,10 @@ use Rattle.ax_plain.specs.Handler.{run_from}
 use Rattle.ax_plain.specs.declared.handler.RunFacts.{RunFacts}
 use Rattle.ax_plain.specs.declared.plain.PlainThread.{PlainThread}
 
+-- how many key groups there are
+abbrev pub groups : ℕ
+groups = 128
+
 -- the states that are held of each key
 abbrev pub Held : Type 0
 Held = BTreeMap Key (List Cell)

@@ -5,6 +5,7 @@
 #![tactic(auto)]
 
 pub mod agenda;
+mod block;
 mod firing;
 pub mod handler;
 pub mod plain;

@@ -4,14 +4,16 @@ ghost use Rattle.std.specs.Io.KnownBytes.{Appends};
 ghost use Rattle.std.specs.BTreeMap.{get, keys};
 ghost use Rattle.std.specs.BTreeSet.{insert_key};
 ghost use Rattle.ax_keys.specs.Keys.{key_cmp};
+ghost use Rattle.ax_input.specs.Seen.{seen_event};
 ghost use Rattle.ax_machine.specs.Entries.{text_of};
-ghost use Rattle.ax_machine.specs.Sync.{plain_start, row_step, knows, silent};
+ghost use Rattle.ax_machine.specs.Sync.{plain_start, plain_step, row_step, knows, silent};
 ghost use Rattle.ax_lang.specs.Shown.{shown, kinds_in};
 ghost use Rattle.ax_plain.specs.Handler.{facts_in, HasSinkCause, AppendsSome};
-ghost use Rattle.ax_plain.specs.Plain.{plain_in, run_at, ThreadFits, IsAbsent};
+ghost use Rattle.ax_plain.specs.Plain.{groups, plain_in, run_at, ThreadFits, IsAbsent};
 
 use crate::handler::{Room, RunFacts, run_handler};
 use ax_base::{Duplicate, NoMemory, Sink, SinkFault};
+use ax_input::Event;
 use ax_keys::Key;
 use ax_lang::Program;
 use ax_machine::first_watermark;
@@ -57,6 +59,43 @@ impl PlainThread {
             timers: Timers::new(alloc),
             room: Room::new(alloc, program.locals())?,
         })
+    }
+
+    /// Takes one event: a row runs to its end, at a greater watermark all that is due fires before it is written, and a
+    /// barrier writes the block of what every key has. Each line is written at once.
+    ///
+    /// Condition: what is held fits the program, as it does behind `new` and stays from event to event of one program.
+    /// After an error the sink took a prefix of the text that the event writes, and the thread is of no more use. `Failed`
+    /// comes only where the sink's count of failures rose.
+    pub fn take<K: Sink>(
+        &mut self,
+        program: &Program,
+        event: &Event,
+        out: &mut K,
+    ) -> Result<(), SinkFault>
+        requires { ThreadFits (kinds_in program.now) self.old }
+        ensures fits { OnOk result (ThreadFits (kinds_in program.now) self.new) }
+        ensures steps { OnOk result (plain_in (kinds_in program.now) self.new
+            ≡ silent (plain_step groups (shown program.now) (seen_event event.now) (plain_in (kinds_in program.now) self.old))) }
+        ensures lines { OnOk result (Appends (K.holds out.old) (K.holds out.new)
+            (text_of (plain_step groups (shown program.now) (seen_event event.now) (plain_in (kinds_in program.now) self.old)).entries)) }
+        ensures part { OnErr result (AppendsSome (K.holds out.old) (K.holds out.new)
+            (text_of (plain_step groups (shown program.now) (seen_event event.now) (plain_in (kinds_in program.now) self.old)).entries)) }
+        ensures faults { K.faults out.old ≤ K.faults out.new }
+        ensures short { K.short out.old ≤ K.short out.new }
+        ensures cause { HasSinkCause (K.faults out.old) (K.faults out.new) result }
+    {
+        match event {
+            Event::Row { key, time, values } => self.run_row(
+                program,
+                key,
+                time,
+                values.as_slice(),
+                out,
+            ),
+            Event::Mark { time } => self.pass_watermark(program, time, out),
+            Event::Barrier { id } => self.write_block(program, id, out),
+        }
     }
 
     // Runs a row to its end, and writes each output line at once.

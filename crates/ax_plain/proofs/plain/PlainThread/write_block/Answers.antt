@@ -1,0 +1,13 @@
+use Rattle.std.proofs.Common.{◌≡◌, ◌∙◌, ℕ, List, rules, subst}
+use Rattle.ax_machine.specs.Entries.{Mark, entry_text}
+use Rattle.ax_machine.specs.Sync.{block_of}
+use Rattle.ax_lang.specs.Shown.{shown, kinds_in}
+use Rattle.ax_plain.specs.Handler.{AppendsSome}
+use Rattle.ax_plain.specs.Plain.{groups, plain_in}
+use Rattle.ax_plain.proofs.RunLemmas.{on_err}
+use Rattle.ax_plain.proofs.plain.PlainThread.write_block.Goals as goal
+
+pub returns-clause-part : goal.returns-clause-part
+returns-clause-part g c =
+    let P : List ℕ → Type 0 = AppendsSome (g.K.Sink.holds c.args.out.now) (g.K.Sink.holds c.write_all.new.out) in
+    on_err c.write_all.result c.write_all.ensures.part (λ a. subst P (c.as_slice.ensures ∙ c.in-Ok.ensures) (a.0, a.2))
