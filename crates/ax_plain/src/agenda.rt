@@ -4,7 +4,7 @@ ghost use Rattle.ax_machine.specs.Firings.{most_firings};
 ghost use Rattle.ax_time.specs.Timers.{times_of};
 ghost use Rattle.ax_plain.specs.Agenda.{firings_left, IsFirstDue, Lists, NoneFires, Puts, without};
 
-use ax_base::{Duplicate, NoMemory};
+use ax_base::NoMemory;
 use ax_keys::Key;
 use ax_time::Timers;
 use std::alloc::Global;
