@@ -33,7 +33,7 @@ pub fn entries_are_spelled()
     ensures watermark { (time : ℤ) → spelled (Mark time) ≡ entry_text (MarkEntry (Watermark time)) }
 {}
 
-/// The bytes of an output of emits and watermarks determine its entries, and so their lines.
+/// The bytes of an output of emits, watermarks and blocks determine its entries, and so their lines.
 pub fn bytes_determine_entries()
     ensures { (es fs : List Entry) → IsDetermined es fs }
 {}

@@ -9,6 +9,8 @@
 mod block;
 mod place;
 pub mod snapshot;
+#[cfg(test)]
+mod tests;
 pub mod write;
 
 pub use snapshot::{KeySnap, KeySnaps, Snapshot};

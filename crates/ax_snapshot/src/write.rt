@@ -55,7 +55,8 @@ fn put_key(alloc: Global, block: &mut Block, snap: &KeySnap, decls: &[Decl]) -> 
     ensures { OnOk result (Adds block.old block.new (part_lines (states_of decls.now) (part_in snap.now))) }
 {
     put_states(alloc, block, &snap.key, &snap.cells, decls)?;
-    put_timers(alloc, block, &snap.key, snap.timers.as_slice())
+    put_timers(alloc, block, &snap.key, snap.timers.as_slice())?;
+    Ok(())
 }
 
 // Puts the lines of the keys, in order.
