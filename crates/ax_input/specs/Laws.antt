@@ -1,5 +1,5 @@
 -- What was written is read back.
-use Rattle.std.specs.Prelude.{◌≡◌, ℕ, ◌+◌, ◌-◌, ◌<◌, ℤ, List, [], ◌∷◌, ◌++◌, length, Bool, true, false, Some}
+use Rattle.std.specs.Prelude.{◌≡◌, ℕ, ◌+◌, ◌-◌, ◌<◌, ℤ, List, ◌∷◌, ◌++◌, length, Bool, true, false, Some}
 use Rattle.std.specs.List.{list_all, AllByRecursion}
 use Rattle.ax_base.specs.Pieces.{Whole, pieces_of}
 use Rattle.ax_base.specs.Words.{words_of}

@@ -1,7 +1,6 @@
 -- Which words are a line of an output or of a snapshot block.
-use Rattle.std.specs.Prelude.{ℕ, ◌^◌, ℤ, pos, negsuc, List, [], ◌∷◌, ◌++◌, length, map, Bool, Option, Some, None, if◌then◌else◌, ◌&&◌, nat_le, nat_lt}
+use Rattle.std.specs.Prelude.{ℕ, ◌^◌, ℤ, pos, negsuc, List, [], ◌∷◌, length, Bool, Option, Some, None, if◌then◌else◌, ◌&&◌, nat_le, nat_lt}
 use Rattle.std.specs.List.{list_all}
-use Rattle.std.specs.Fmt.{signed_decimal, decimal}
 use lib.Chars.{codes}
 use Rattle.ax_keys.specs.Keys.{is_key}
 use Rattle.ax_syntax.specs.Words.{Word, same_word, is_name}

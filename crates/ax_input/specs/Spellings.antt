@@ -1,5 +1,5 @@
 -- Which numbers words are.
-use Rattle.std.specs.Prelude.{ℕ, ℤ, pos, negsuc, ◌^◌, List, [], ◌∷◌, ◌++◌, Bool, Option, Some, None, nat_lt}
+use Rattle.std.specs.Prelude.{ℤ, pos, negsuc, ◌^◌, List, [], ◌∷◌, Bool, Option, Some, None, nat_lt}
 use Rattle.ax_base.specs.Numbers.{number_of}
 use Rattle.ax_syntax.specs.Words.{Word}
 

@@ -1,4 +1,4 @@
-use Rattle.std.proofs.Common.{refl, ℕ, sym}
+use Rattle.std.proofs.Common.{refl}
 use Rattle.std.specs.List.{Contains}
 use Rattle.ax_snapshot.proofs.PlaceLemmas.{placed_step, all_values}
 use Rattle.ax_snapshot.proofs.place.place_keys.Goals as goal
