@@ -22,7 +22,8 @@ pub enum Status {
     /// This line is the first with a fault among the events. What comes before it is written.
     ///
     /// Lines count from 1. Kinds: 1 the first word, 2 the key, 3 a number, 4 the count of words,
-    /// 6 a line that is too long, 7 too much input, 8 not built yet.
+    /// 5 a barrier whose ID isn't greater than each before it, 6 a line that is too long, 7 too
+    /// much input.
     Input { line: u64, kind: u8 },
     /// The source failed. What was read before it is written.
     Read,

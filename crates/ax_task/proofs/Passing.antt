@@ -1,5 +1,5 @@
 -- What the readers of the section and of the events pass, line by line, where the source tells its bytes.
-use Rattle.std.proofs.Common.{◌≡◌, ℕ, ◌+◌, ◌≤◌, List, [], ◌∷◌, ◌++◌, length, true, false, cond, Option, Some, None, Ok, Err, refl, sym, ap, ◌∙◌, append_assoc, arith, subst}
+use Rattle.std.proofs.Common.{◌≡◌, ℕ, ◌+◌, ◌≤◌, ℤ, List, [], ◌∷◌, ◌++◌, length, true, false, cond, Option, Some, None, Ok, Err, refl, sym, ap, ◌∙◌, append_assoc, arith, subst}
 use Rattle.std.proofs.lemmas.Bool.{false≢true}
 use Rattle.std.specs.Io.KnownBytes.{Consumes}
 use Rattle.ax_base.specs.Outside.{Told}
@@ -13,7 +13,7 @@ use Rattle.ax_base.proofs.OutsideLemmas.{Told-trans, Told-map}
 use Rattle.ax_input.specs.Events.{EventRead, Good, event_of, is_skipped}
 use Rattle.ax_input.specs.Seen.{seen_event}
 use Rattle.ax_input.specs.declared.event.Event.{Event as CodeEvent}
-use Rattle.ax_task.specs.Parse.{with_event, event_or_fault, stream_of}
+use Rattle.ax_task.specs.Parse.{Stream, with_event, event_or_fault, in_order, last_after, stream_of}
 use Rattle.ax_task.specs.Sections.{Section, Gathered, section_of, is_section_end, most_kept}
 use Rattle.ax_task.specs.Reads.{ReadsLine, Keeps}
 use Rattle.ax_task.specs.declared.section.Kept.{Kept}
@@ -51,77 +51,82 @@ line_goes f H l l' old new line r h =
     ))
 
 -- what the reader of events makes of a line
-skipped : (fields n : ℕ) (text : List ℕ) (rest : List Piece) → is_skipped text ≡ true → stream_of fields n (Whole text ∷ rest) ≡ stream_of fields (n + 1) rest
-skipped fields n text rest e = ap (λ t. cond t (stream_of fields (n + 1) rest) (event_or_fault n (event_of fields text) (stream_of fields (n + 1) rest))) e
+module _ (fields : ℕ) (last : ℤ) (n : ℕ) (text : List ℕ) (rest : List Piece) where
+  abbrev skips : Stream
+  skips = stream_of fields last (n + 1) rest
 
-taken : (fields n : ℕ) (text : List ℕ) (rest : List Piece) → is_skipped text ≡ false → stream_of fields n (Whole text ∷ rest) ≡ event_or_fault n (event_of fields text) (stream_of fields (n + 1) rest)
-taken fields n text rest e = ap (λ t. cond t (stream_of fields (n + 1) rest) (event_or_fault n (event_of fields text) (stream_of fields (n + 1) rest))) e
+  abbrev takes : EventRead → Stream
+  takes read = event_or_fault n read (λ e. stream_of fields (last_after e last) (n + 1) rest)
+
+  skipped : is_skipped text ≡ true → stream_of fields last n (Whole text ∷ rest) ≡ skips
+  skipped e = ap (λ t. cond t skips (takes (in_order last (event_of fields text)))) e
+
+  taken : (read : EventRead) → is_skipped text ≡ false → in_order last (event_of fields text) ≡ read → stream_of fields last n (Whole text ∷ rest) ≡ takes read
+  taken read e is = ap (λ t. cond t skips (takes (in_order last (event_of fields text)))) e ∙ ap takes is
 
 -- a skipped line
-pub next_skips : (fields : ℕ) (l l' : Option (List ℕ)) (old new : Reader) (line : Line) → ReadsMore l l' old new (Ok (Some line)) → is_skipped line.text ≡ true → new.number ≡ old.number + 1
-    → Told l l' (λ a b. Goes (events_at fields old) (events_at fields new) old.held a new.held b)
-next_skips fields l l' old new line r e n =
-    line_goes (stream_of fields (old.number + 1)) (events_at fields new) l l' old new line r
-    (λ x. skipped fields (old.number + 1) line.text (pieces_of new.limit x) e ∙ ap (λ k. stream_of fields (k + 1) (pieces_of new.limit x)) (sym n))
+pub next_skips : (fields : ℕ) (last : ℤ) (l l' : Option (List ℕ)) (old new : Reader) (line : Line) → ReadsMore l l' old new (Ok (Some line)) → is_skipped line.text ≡ true → new.number ≡ old.number + 1
+    → Told l l' (λ a b. Goes (events_at fields last old) (events_at fields last new) old.held a new.held b)
+next_skips fields last l l' old new line r e n =
+    line_goes (stream_of fields last (old.number + 1)) (events_at fields last new) l l' old new line r
+    (λ x. skipped fields last (old.number + 1) line.text (pieces_of new.limit x) e ∙ ap (λ k. stream_of fields last (k + 1) (pieces_of new.limit x)) (sym n))
 
 -- a line with an event
-next_takes : (fields : ℕ) (l l' : Option (List ℕ)) (old new : Reader) (line : Line) (e : CodeEvent) → ReadsMore l l' old new (Ok (Some line)) → is_skipped line.text ≡ false
-    → new.number ≡ old.number + 1 → event_of fields line.text ≡ Good (seen_event e)
-    → Told l l' (λ a b. Goes (events_at fields old) (λ x. with_event (seen_event e) (events_at fields new x)) old.held a new.held b)
-next_takes fields l l' old new line e r s n good =
-    line_goes (stream_of fields (old.number + 1)) (λ x. with_event (seen_event e) (events_at fields new x)) l l' old new line r
-    (λ x. taken fields (old.number + 1) line.text (pieces_of new.limit x) s
-    ∙ ap (λ g. event_or_fault (old.number + 1) g (stream_of fields (old.number + 1 + 1) (pieces_of new.limit x))) good
-    ∙ ap (λ k. with_event (seen_event e) (stream_of fields (k + 1) (pieces_of new.limit x))) (sym n))
+next_takes : (fields fields' : ℕ) (last last' : ℤ) (l l' : Option (List ℕ)) (old new : Reader) (line : Line) (e : CodeEvent) → ReadsMore l l' old new (Ok (Some line)) → is_skipped line.text ≡ false
+    → new.number ≡ old.number + 1 → in_order last (event_of fields line.text) ≡ Good (seen_event e) → fields' ≡ fields → last' ≡ last_after (seen_event e) last
+    → Told l l' (λ a b. Goes (events_at fields last old) (λ x. with_event (seen_event e) (events_at fields' last' new x)) old.held a new.held b)
+next_takes fields fields' last last' l l' old new line e r s n good same now =
+    line_goes (stream_of fields last (old.number + 1)) (λ x. with_event (seen_event e) (events_at fields' last' new x)) l l' old new line r
+    (λ x. taken fields last (old.number + 1) line.text (pieces_of new.limit x) (Good (seen_event e)) s good
+    ∙ ap (λ k. with_event (seen_event e) (stream_of fields (last_after (seen_event e) last) (k + 1) (pieces_of new.limit x))) (sym n)
+    ∙ ap (λ v. with_event (seen_event e) (stream_of fields v (new.number + 1) (pieces_of new.limit x))) (sym now)
+    ∙ ap (λ f. with_event (seen_event e) (stream_of f last' (new.number + 1) (pieces_of new.limit x))) (sym same))
 
 -- the next event was read
-pub next_event_passes : (fields : ℕ) (l0 l l' : Option (List ℕ)) (first old new : Reader) (line : Line) (e : CodeEvent)
-    → Told l0 l (λ a b. Goes (events_at fields first) (events_at fields old) first.held a old.held b)
-    → ReadsMore l l' old new (Ok (Some line)) → is_skipped line.text ≡ false → new.number ≡ old.number + 1 → event_of fields line.text ≡ Good (seen_event e)
-    → Told l0 l' (λ a b. NextPasses fields first new a b (Ok (Some e)))
-next_event_passes fields l0 l l' first old new line e x r s n good =
-    goes_on (events_at fields first) (events_at fields old) (λ y. with_event (seen_event e) (events_at fields new y)) l0 l l' first.held old.held new.held x
-    (next_takes fields l l' old new line e r s n good)
+pub next_event_passes : (fields fields' : ℕ) (last last' : ℤ) (F : List ℕ → Stream) (held0 : List ℕ) (l0 l l' : Option (List ℕ)) (old new : Reader) (line : Line) (e : CodeEvent)
+    → Told l0 l (λ a b. Goes F (events_at fields last old) held0 a old.held b)
+    → ReadsMore l l' old new (Ok (Some line)) → is_skipped line.text ≡ false → new.number ≡ old.number + 1 → in_order last (event_of fields line.text) ≡ Good (seen_event e)
+    → fields' ≡ fields → last' ≡ last_after (seen_event e) last
+    → Told l0 l' (λ a b. NextPasses F (events_at fields' last' new) held0 new.held a b (Ok (Some e)))
+next_event_passes fields fields' last last' F held0 l0 l l' old new line e x r s n good same now =
+    goes_on F (events_at fields last old) (λ y. with_event (seen_event e) (events_at fields' last' new y)) l0 l l' held0 old.held new.held x
+    (next_takes fields fields' last last' l l' old new line e r s n good same now)
 
--- bytes came of which nothing was passed
-some_passes : (fields : ℕ) (l0 l l' : Option (List ℕ)) (first old new : Reader) (more : List ℕ)
-    → Told l0 l (λ a b. Goes (events_at fields first) (events_at fields old) first.held a old.held b)
-    → Consumes l l' more
-    → Told l0 l' (λ a b. NextPasses fields first new a b (Err end.NoMemory))
-some_passes fields l0 l l' first old new more x came =
-    Told-trans l0 l l' x (told_some (events_at fields old) l l' old.held more came) (λ a b c p q.
-    (events_at fields old, p.0 ++ [], q.0, Passed-trans (events_at fields first) (events_at fields old) (events_at fields old) first.held a p.0 old.held b [] q.0 c p.1 q.1))
+module _ (F G H : List ℕ → Stream) (held0 held held' : List ℕ) (l0 l l' : Option (List ℕ)) where
+  -- bytes came of which nothing was passed
+  some_passes : (more : List ℕ) → Told l0 l (λ a b. Goes F G held0 a held b) → Consumes l l' more
+      → Told l0 l' (λ a b. NextPasses F H held0 held' a b (Err end.NoMemory))
+  some_passes more x came =
+      Told-trans l0 l l' x (told_some G l l' held more came) (λ a b c p q.
+      (G, p.0 ++ [], q.0, Passed-trans F G G held0 a p.0 held b [] q.0 c p.1 q.1))
 
--- memory was short while a line was read
-pub next_lacks : (fields : ℕ) (l0 l l' : Option (List ℕ)) (first old new : Reader)
-    → Told l0 l (λ a b. Goes (events_at fields first) (events_at fields old) first.held a old.held b)
-    → ReadsMore l l' old new (Err fault.NoMemory)
-    → Told l0 l' (λ a b. NextPasses fields first new a b (Err end.NoMemory))
-next_lacks fields l0 l l' first old new x r = some_passes fields l0 l l' first old new r.0 x r.1
+  -- a line is no event, or memory was short for it
+  pub next_err_passes : (old new : Reader) (line : Line) (e : End) (read : EventRead) (number : ℕ) → Told l0 l (λ a b. Goes F G held0 a held b)
+      → ReadsMore l l' old new (Ok (Some line)) → ReadsLine read number (Err e)
+      → Told l0 l' (λ a b. NextPasses F H held0 held' a b (Err e))
+  next_err_passes old new line (end.Input n kind) read number x r h = Told-trans l0 l l' x (told_some G l l' held r.0 r.1) (λ a b c p q. tt)
+  next_err_passes old new line end.NoMemory read number x r h = some_passes r.0 x r.1
+  next_err_passes old new line end.Ok read number x r h = absurd h
+  next_err_passes old new line (end.Program n kind) read number x r h = absurd h
+  next_err_passes old new line end.Read read number x r h = absurd h
+  next_err_passes old new line end.Write read number x r h = absurd h
 
--- a line is no event, or memory was short for it
-pub next_err_passes : (fields : ℕ) (l0 l l' : Option (List ℕ)) (first old new : Reader) (line : Line) (e : End) (read : EventRead) (number : ℕ)
-    → Told l0 l (λ a b. Goes (events_at fields first) (events_at fields old) first.held a old.held b)
-    → ReadsMore l l' old new (Ok (Some line)) → ReadsLine read number (Err e)
-    → Told l0 l' (λ a b. NextPasses fields first new a b (Err e))
-next_err_passes fields l0 l l' first old new line (end.Input n kind) read number x r h = Told-trans l0 l l' x (told_some (events_at fields old) l l' old.held r.0 r.1) (λ a b c p q. tt)
-next_err_passes fields l0 l l' first old new line end.NoMemory read number x r h = some_passes fields l0 l l' first old new r.0 x r.1
-next_err_passes fields l0 l l' first old new line end.Ok read number x r h = absurd h
-next_err_passes fields l0 l l' first old new line (end.Program n kind) read number x r h = absurd h
-next_err_passes fields l0 l l' first old new line end.Read read number x r h = absurd h
-next_err_passes fields l0 l l' first old new line end.Write read number x r h = absurd h
+  -- memory was short while a line was read
+  pub next_lacks : (old new : Reader) → Told l0 l (λ a b. Goes F G held0 a held b) → ReadsMore l l' old new (Err fault.NoMemory)
+      → Told l0 l' (λ a b. NextPasses F H held0 held' a b (Err end.NoMemory))
+  next_lacks old new x r = some_passes r.0 x r.1
 
 -- the source failed
-pub next_fails : (fields : ℕ) (l0 l l' : Option (List ℕ)) (first old new : Reader)
-    → Told l0 l (λ a b. Goes (events_at fields first) (events_at fields old) first.held a old.held b)
+pub next_fails : (fields : ℕ) (last : ℤ) (F : List ℕ → Stream) (held0 : List ℕ) (l0 l l' : Option (List ℕ)) (old new : Reader)
+    → Told l0 l (λ a b. Goes F (events_at fields last old) held0 a old.held b)
     → ReadsMore l l' old new (Err fault.Read) → new.number ≡ old.number → new.limit ≡ old.limit → no_feed new.held ≡ true
-    → Told l0 l' (λ a b. NextPasses fields first new a b (Err end.Read))
-next_fails fields l0 l l' first old new x r n k waits =
-    Told-trans l0 l l' x (told_read (events_at fields old) l l' old new r) (λ a b c p q. (
+    → Told l0 l' (λ a b. NextPasses F (events_at fields last new) held0 new.held a b (Err end.Read))
+next_fails fields last F held0 l0 l l' old new x r n k waits =
+    Told-trans l0 l l' x (told_read (events_at fields last old) l l' old new r) (λ a b c p q. (
       p.0 ++ [],
-      Passed-as (events_at fields first) (events_at fields old) (events_at fields new) first.held a (p.0 ++ []) new.held c
-          (Passed-trans (events_at fields first) (events_at fields old) (events_at fields old) first.held a p.0 old.held b [] new.held c p.1 q)
-          (λ y. ap (λ j. stream_of fields (j + 1) (pieces_of old.limit y)) (sym n) ∙ ap (λ j. stream_of fields (new.number + 1) (pieces_of j y)) (sym k)),
+      Passed-as F (events_at fields last old) (events_at fields last new) held0 a (p.0 ++ []) new.held c
+          (Passed-trans F (events_at fields last old) (events_at fields last old) held0 a p.0 old.held b [] new.held c p.1 q)
+          (λ y. ap (λ j. stream_of fields last (j + 1) (pieces_of old.limit y)) (sym n) ∙ ap (λ j. stream_of fields last (new.number + 1) (pieces_of j y)) (sym k)),
       waits,
     ))
 

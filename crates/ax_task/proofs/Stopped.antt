@@ -8,20 +8,22 @@ use Rattle.ax_base.specs.Reader.{Reader}
 use Rattle.ax_base.specs.declared.lines.Line.{Line}
 use Rattle.ax_base.proofs.OutsideLemmas.{Appends-none, Told-trans, Told-map}
 use Rattle.ax_text.specs.Programs.{Program}
-use Rattle.ax_machine.specs.Entries.{Entry, says, text_of}
-use Rattle.ax_machine.specs.Events.{Event, Row}
-use Rattle.ax_machine.specs.Sync.{Plain, row_run, plain_step, plain_steps, plain_start, sync}
+use Rattle.ax_machine.specs.Entries.{Entry, text_of}
+use Rattle.ax_machine.specs.Events.{Event}
+use Rattle.ax_machine.specs.Sync.{Plain, plain_steps, plain_start, sync, silent}
 use Rattle.ax_machine.specs.Lawful.{LawfulSoFar, LawfulSoFarFor}
 use Rattle.ax_machine.proofs.LawfulLemmas.{lawful_itself}
 use Rattle.ax_machine.proofs.FrontLemmas.{lawful_so_far_front}
+use Rattle.ax_machine.proofs.StepLemmas.{steps_behind, steps_append}
 use Rattle.ax_lang.specs.declared.program.Program.{Program as CodeProgram}
 use Rattle.ax_lang.specs.declared.reader.SectionEnd.{SectionEnd}
 use Rattle.ax_lang.specs.Programs.{Reading, Faulty, Accepted, or_fault, fault_in, shape_in, tables_of, rows_of, is_whole, program_in, ended, read_from, program_of, IsProgram}
 use Rattle.ax_lang.specs.Shown.{shown}
 use Rattle.ax_task.specs.Sections as section
 use Rattle.ax_task.specs.Sections.{Section, Gathered, section_of}
-use Rattle.ax_task.specs.Parse.{Stream, Clean, ends, Parsed, BadProgram, Runs, of_reading, of_section, behind, most_bytes, parse}
-use Rattle.ax_task.specs.Handler.{AppendsSome}
+use Rattle.ax_task.specs.Parse.{Stream, Clean, ends, Parsed, BadProgram, Runs, of_reading, of_section, behind, first_last, most_bytes, parse}
+use Rattle.ax_plain.specs.Handler.{AppendsSome}
+use Rattle.ax_plain.specs.Plain.{groups}
 use Rattle.ax_task.specs.Reads.{ReadCause}
 use Rattle.ax_task.specs.Passes.{MayFollow, Passed, events_at, section_at, SectionPasses, IsUnfinished, in_front, Taken, EventsStop}
 use Rattle.ax_task.specs.Clause.{OfTaken, WritesLawful, WroteAll, WrotePart, Stops}
@@ -29,7 +31,7 @@ use Rattle.ax_task.specs.declared.section.Gathered.{Gathered as CodeGathered}
 use Rattle.ax_task.specs.declared.end.End.{End}
 use Rattle.ax_task.specs.declared.end.End.TheVariants as end
 use Rattle.ax_task.proofs.Feeds.{front_nil, back_nil, none_whole, Passed-trans, Passed-as, Passed-map}
-use Rattle.ax_task.proofs.RunLemmas.{AppendsSome-none}
+use Rattle.ax_plain.proofs.RunLemmas.{AppendsSome-none}
 use Rattle.ax_task.proofs.Whole.{parsed}
 
 -- what the whole lines mean that were taken
@@ -56,7 +58,7 @@ of_taken G a w rest b P p h = by_end p.ended where
 -- where nothing was written, it is a part of any text
 nothing_written : (h : Option (List ℕ)) (s : Parsed) → WrotePart h h s
 nothing_written h (BadProgram line kind) = Appends-none h
-nothing_written h (Runs p s) = ([], lawful_so_far_front true [] (sync p s.events).entries, AppendsSome-none h [])
+nothing_written h (Runs p s) = ([], lawful_so_far_front true [] (sync groups p s.events).entries, AppendsSome-none h [])
 
 stop_taken : (a b taken : List ℕ) (h : Option (List ℕ)) → a ≡ taken ++ b → OfTaken a b (WrotePart h h)
 stop_taken a b taken h e = (taken, whole_lines taken, e, inl refl, nothing_written h (parse (whole_lines taken)))
@@ -136,35 +138,22 @@ accepted_found lines e p h = by_found e.found refl where
   by_found false f = absurd (by_reading (program_of lines e) (unfinished lines e f) h)
 
 program_passed : (r : Reader) (g : CodeGathered) (p : CodeProgram) (a b : List ℕ) (s : SectionPasses fresh r a b (Ok g)) → IsProgram (program_of g.lines g.end) p → behind g.end.line g.end.found ≡ r.number + 1
-    → Passed parse (λ x. Runs (shown p) (events_at (shown p).fields r x)) [] a s.0 r.held b
+    → Passed parse (λ x. Runs (shown p) (events_at (shown p).fields first_last r x)) [] a s.0 r.held b
 program_passed r g p a b s is follows =
     let found : g.end.found ≡ true = accepted_found g.lines g.end p is in
-    Passed-as parse (λ x. of_section (Gathered g.lines g.end.line true (pieces_of r.limit x))) (λ x. Runs (shown p) (events_at (shown p).fields r x)) [] a s.0 r.held b
+    Passed-as parse (λ x. of_section (Gathered g.lines g.end.line true (pieces_of r.limit x))) (λ x. Runs (shown p) (events_at (shown p).fields first_last r x)) [] a s.0 r.held b
     (Passed-map of_section (section_at 0 fresh) (λ x. Gathered g.lines g.end.line true (pieces_of r.limit x)) [] a s.0 r.held b (s.2 found))
     (λ x. parsed (Gathered g.lines g.end.line true (pieces_of r.limit x)) g.lines g.end (pieces_of r.limit x) p (r.number + 1)
     (ap (λ t. Gathered g.lines g.end.line t (pieces_of r.limit x)) (sym found)) is follows)
 
-steps_both : (p : Program) (xs ys : List Event) (s : Plain) → plain_steps p (xs ++ ys) s ≡ plain_steps p ys (plain_steps p xs s)
-steps_both p [] ys s = refl
-steps_both p (x ∷ xs) ys s = steps_both p xs ys (plain_step p x s)
-
--- the plain thread only adds entries
-step_adds : (p : Program) (e : Event) (s : Plain) → (more : List Entry) × ((plain_step p e s).entries ≡ s.entries ++ more)
-step_adds p (Row key time values) s = (says key (row_run p s.wm (s.map key) time values).talk.lines, refl)
-
-steps_add : (p : Program) (es : List Event) (s : Plain) → (more : List Entry) × ((plain_steps p es s).entries ≡ s.entries ++ more)
-steps_add p [] s = ([], sym (append-nil s.entries))
-steps_add p (e ∷ es) s =
-    let one = step_adds p e s in
-    let rest = steps_add p es (plain_step p e s) in
-    (one.0 ++ rest.0, rest.1 ∙ ap (λ (xs : List Entry). xs ++ rest.0) one.1 ∙ append_assoc s.entries one.0 rest.0)
-
-so_far : (p : Program) (done more : List Event) → LawfulSoFarFor true p (done ++ more) (sync p done).entries
+so_far : (p : Program) (done more : List Event) → LawfulSoFarFor groups true p (done ++ more) (sync groups p done).entries
 so_far p done more =
-    let rest = steps_add p more (sync p done) in
-    let whole : (sync p (done ++ more)).entries ≡ (sync p done).entries ++ rest.0 = ap (λ (s : Plain). s.entries) (steps_both p done more (plain_start p)) ∙ rest.1 in
-    let P : List Entry → Type 0 = LawfulSoFar true (sync p done).entries in
-    subst P (sym whole) (lawful_so_far_front true (sync p done).entries rest.0)
+    let first : Plain = sync groups p done in
+    let further : Plain = plain_steps groups p more (silent first) in
+    let whole : (sync groups p (done ++ more)).entries ≡ first.entries ++ further.entries =
+    ap (λ (s : Plain). s.entries) (steps_append groups p done more (plain_start p) ∙ steps_behind groups p more first) in
+    let P : List Entry → Type 0 = LawfulSoFar true first.entries in
+    subst P (sym whole) (lawful_so_far_front true first.entries further.entries)
 
 events_passed : (p : Program) (F : List ℕ → Stream) (held a w b c : List ℕ) → Passed parse (λ x. Runs p (F x)) [] a w held b → (t : Taken F held b c)
     → Passed parse (λ x. Runs p (in_front t.done (t.behind x))) [] a (w ++ t.w) t.rest c
@@ -173,10 +162,10 @@ events_passed p F held a w b c s t =
     (Passed-map (Runs p) F (λ x. in_front t.done (t.behind x)) held b t.w t.rest c t.passed)
 
 part_stop : (p : Program) (F : List ℕ → Stream) (held a w b c : List ℕ) (h0 h1 : Option (List ℕ)) → Passed parse (λ x. Runs p (F x)) [] a w held b
-    → (t : Taken F held b c) → AppendsSome h0 h1 (text_of (sync p t.done).entries) → OfTaken a c (WrotePart h0 h1)
+    → (t : Taken F held b c) → AppendsSome h0 h1 (text_of (sync groups p t.done).entries) → OfTaken a c (WrotePart h0 h1)
 part_stop p F held a w b c h0 h1 s t wrote =
     of_taken (λ x. Runs p (in_front t.done (t.behind x))) a (w ++ t.w) t.rest c (WrotePart h0 h1) (events_passed p F held a w b c s t)
-    (λ v n. ((sync p t.done).entries, so_far p t.done (t.behind v).events, wrote))
+    (λ v n. ((sync groups p t.done).entries, so_far p t.done (t.behind v).events, wrote))
 
 events_stop : (p : Program) (F : List ℕ → Stream) (held a w b c : List ℕ) (h0 h1 : Option (List ℕ)) (e : End) → Passed parse (λ x. Runs p (F x)) [] a w held b
     → EventsStop p F held b c h0 h1 e → Stops a c h0 h1 e
@@ -186,7 +175,7 @@ events_stop p F held a w b c h0 h1 end.Read s t =
     let none : in_front t.0.done (t.0.behind v) ≡ in_front t.0.done (ends Clean) = ap (in_front t.0.done) (ap t.0.behind (n t.2) ∙ t.1) in
     let events : (in_front t.0.done (t.0.behind v)).events ≡ t.0.done = ap (λ (q : Stream). q.events) none ∙ append-nil t.0.done in
     let P : List Event → Type 0 = λ es. WritesLawful p es h0 h1 in
-    subst P (sym events) ((sync p t.0.done).entries, lawful_itself true (sync p t.0.done).entries, t.3))
+    subst P (sym events) ((sync groups p t.0.done).entries, lawful_itself true (sync groups p t.0.done).entries, t.3))
 events_stop p F held a w b c h0 h1 end.Write s t = part_stop p F held a w b c h0 h1 s t.0 t.1
 events_stop p F held a w b c h0 h1 end.NoMemory s t = part_stop p F held a w b c h0 h1 s t.0 t.1
 events_stop p F held a w b c h0 h1 end.Ok s t = tt
@@ -196,10 +185,10 @@ events_stop p F held a w b c h0 h1 (end.Program line kind) s t = tt
 -- a whole run
 pub stop_events : (l0 l1 l2 h0 h1 : Option (List ℕ)) (r r' : Reader) (g : CodeGathered) (p : CodeProgram) (e : End) → r ≡ fresh
     → Told l0 l1 (λ a b. SectionPasses r r' a b (Ok g)) → IsProgram (program_of g.lines g.end) p → behind g.end.line g.end.found ≡ r'.number + 1
-    → Told l1 l2 (λ a b. EventsStop (shown p) (events_at (shown p).fields r') r'.held a b h0 h1 e)
+    → Told l1 l2 (λ a b. EventsStop (shown p) (events_at (shown p).fields first_last r') r'.held a b h0 h1 e)
     → Told l0 l2 (λ a b. Stops a b h0 h1 e)
 stop_events l0 l1 l2 h0 h1 r r' g p e is x reads follows y =
     Told-trans l0 l1 l2 x y (λ a b c s t.
     let P : Reader → Type 0 = λ q. SectionPasses q r' a b (Ok g) in
     let passes : SectionPasses fresh r' a b (Ok g) = subst P is s in
-    events_stop (shown p) (events_at (shown p).fields r') r'.held a passes.0 b c h0 h1 e (program_passed r' g p a b passes reads follows) t)
+    events_stop (shown p) (events_at (shown p).fields first_last r') r'.held a passes.0 b c h0 h1 e (program_passed r' g p a b passes reads follows) t)

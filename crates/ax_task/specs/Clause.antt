@@ -8,13 +8,14 @@ use Rattle.ax_machine.specs.Entries.{Entry, text_of}
 use Rattle.ax_machine.specs.Events.{Event}
 use Rattle.ax_machine.specs.Lawful.{LawfulFor, LawfulSoFarFor}
 use Rattle.ax_task.specs.Parse.{Parsed, BadProgram, Runs, Stream, Clean, Fault, parse}
-use Rattle.ax_task.specs.Handler.{AppendsSome}
+use Rattle.ax_plain.specs.Handler.{AppendsSome}
+use Rattle.ax_plain.specs.Plain.{groups}
 use Rattle.ax_task.specs.declared.end.End.{End}
 use Rattle.ax_task.specs.declared.end.End.TheVariants as end
 
 -- the sink grew by the text of a list that is lawful for these events; watermarks wait for all that precedes them
 abbrev pub WritesLawful : Program → List Event → Option (List ℕ) → Option (List ℕ) → Type 0
-WritesLawful p events old new = (written : List Entry) × LawfulFor true p events written × Appends old new (text_of written)
+WritesLawful p events old new = (written : List Entry) × LawfulFor groups true p events written × Appends old new (text_of written)
 
 -- what events leave, by the end: `left` is what the source still has
 abbrev pub StreamEnds : Program → Stream → List ℕ → Option (List ℕ) → Option (List ℕ) → End → Type 0
@@ -45,7 +46,7 @@ OfTaken bytes left P = (taken lines : List ℕ) × (bytes ≡ taken ++ left) × 
 
 -- the sink grew by a prefix of the text of a list that is lawful for these events so far
 abbrev pub WritesPart : Program → List Event → Option (List ℕ) → Option (List ℕ) → Type 0
-WritesPart p events old new = (written : List Entry) × LawfulSoFarFor true p events written × AppendsSome old new (text_of written)
+WritesPart p events old new = (written : List Entry) × LawfulSoFarFor groups true p events written × AppendsSome old new (text_of written)
 
 -- a lawful list for all events was written; nothing, where there is no program
 abbrev pub WroteAll : Option (List ℕ) → Option (List ℕ) → Parsed → Type 0

@@ -3,6 +3,3 @@ pub mod Parse
 pub mod Clause
 pub mod Reads
 pub mod Passes
-pub mod States
-pub mod Handler
-pub mod Plain

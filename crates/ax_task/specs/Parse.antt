@@ -1,8 +1,8 @@
 -- What the bytes of an input say.
-use Rattle.std.specs.Prelude.{ℕ, ◌+◌, ◌^◌, List, [], ◌∷◌, Bool, true, false, if◌then◌else◌}
+use Rattle.std.specs.Prelude.{ℕ, ◌+◌, ◌^◌, ℤ, pos, int_le, List, [], ◌∷◌, Bool, true, false, if◌then◌else◌}
 use Rattle.ax_base.specs.Pieces.{Piece, Whole, TooLong, TooMuch, pieces_of}
 use Rattle.ax_text.specs.Programs.{Program}
-use Rattle.ax_machine.specs.Events.{Event}
+use Rattle.ax_machine.specs.Events.{Event, Row, Mark, Barrier}
 use Rattle.ax_lang.specs.Programs.{Reading, program_of}
 use Rattle.ax_lang.specs.Programs as program
 use Rattle.ax_input.specs.Events.{EventRead, Good, Bad, event_of}
@@ -25,17 +25,40 @@ ends ending = record { events = []; ending = ending }
 abbrev pub with_event : Event → Stream → Stream
 with_event e s = record { events = e ∷ s.events; ending = s.ending }
 
-abbrev pub event_or_fault : ℕ → EventRead → Stream → Stream
-event_or_fault n (Good e) rest = with_event e rest
-event_or_fault n (Bad kind) rest = ends (Fault n kind)
+-- the greatest ID of a barrier behind an event, where it was `last` before; IDs rise
+abbrev pub last_after : Event → ℤ → ℤ
+last_after (Row key time values) last = last
+last_after (Mark time) last = last
+last_after (Barrier id) last = id
 
--- the events of these pieces, where a row has so many values, and n is the number of the next line
-abbrev pub stream_of : ℕ → ℕ → List Piece → Stream
-stream_of fields n [] = ends Clean
-stream_of fields n (TooLong ∷ ps) = ends (Fault n 6)
-stream_of fields n (TooMuch ∷ ps) = ends (Fault n 7)
-stream_of fields n (Whole text ∷ ps) =
-    if is_skipped text then stream_of fields (n + 1) ps else event_or_fault n (event_of fields text) (stream_of fields (n + 1) ps)
+-- a barrier whose ID isn't greater than each before it
+abbrev pub is_late : ℤ → Event → Bool
+is_late last (Row key time values) = false
+is_late last (Mark time) = false
+is_late last (Barrier id) = int_le id last
+
+-- what a line says, where `last` is the greatest ID of the barriers before it
+abbrev pub in_order : ℤ → EventRead → EventRead
+in_order last (Good e) = if is_late last e then Bad 5 else Good e
+in_order last (Bad kind) = Bad kind
+
+abbrev pub event_or_fault : ℕ → EventRead → (Event → Stream) → Stream
+event_or_fault n (Good e) go = with_event e (go e)
+event_or_fault n (Bad kind) go = ends (Fault n kind)
+
+-- the events of these pieces, where a row has so many values, `last` is the greatest ID of the barriers before, and n is the number
+-- of the next line
+abbrev pub stream_of : ℕ → ℤ → ℕ → List Piece → Stream
+stream_of fields last n [] = ends Clean
+stream_of fields last n (TooLong ∷ ps) = ends (Fault n 6)
+stream_of fields last n (TooMuch ∷ ps) = ends (Fault n 7)
+stream_of fields last n (Whole text ∷ ps) =
+    if is_skipped text then stream_of fields last (n + 1) ps else
+    event_or_fault n (in_order last (event_of fields text)) (λ e. stream_of fields (last_after e last) (n + 1) ps)
+
+-- the greatest ID before the first barrier: IDs are at least 1
+abbrev pub first_last : ℤ
+first_last = pos 0
 
 -- a fault of the program section, or a program and its events
 pub data Parsed : Type 0 where
@@ -44,7 +67,7 @@ pub data Parsed : Type 0 where
 
 abbrev pub of_reading : Reading → ℕ → List Piece → Parsed
 of_reading (program.Faulty line kind) n ps = BadProgram line kind
-of_reading (program.Accepted p) n ps = Runs p (stream_of p.fields n ps)
+of_reading (program.Accepted p) n ps = Runs p (stream_of p.fields first_last n ps)
 
 -- the number of the first line behind the section
 abbrev pub behind : ℕ → Bool → ℕ

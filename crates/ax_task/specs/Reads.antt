@@ -3,6 +3,8 @@ use Rattle.std.specs.Prelude.{◌≡◌, ℕ, ◌+◌, ◌≤◌, ◌<◌, List,
 use Rattle.ax_base.specs.Outside.{Rose}
 use Rattle.ax_base.specs.Pieces.{Piece}
 use Rattle.ax_base.specs.declared.lines.Line.{Line}
+use Rattle.ax_base.specs.declared.outside.SinkFault.{SinkFault}
+use Rattle.ax_base.specs.declared.outside.SinkFault.TheVariants as sink
 use Rattle.ax_input.specs.Events.{EventRead, Good, Bad}
 use Rattle.ax_task.specs.Sections.{Section, most_kept}
 use Rattle.ax_task.specs.Sections as section
@@ -22,7 +24,6 @@ kind_number fault.Word = Some 1
 kind_number fault.Key = Some 2
 kind_number fault.Number = Some 3
 kind_number fault.Count = Some 4
-kind_number fault.Unbuilt = Some 8
 kind_number fault.NoMemory = None
 
 abbrev pub input_end : ℕ → Option ℕ → End
@@ -82,3 +83,8 @@ ReadCause before now (Err end.Write) = ⊥
 ReadCause before now (Err end.NoMemory) = Unit {0}
 ReadCause before now (Err (end.Program line kind)) = Unit {0}
 ReadCause before now (Err (end.Input line kind)) = Unit {0}
+
+-- the end of a run at a fault of its sink
+abbrev pub sink_end : SinkFault → End
+sink_end sink.Failed = end.Write
+sink_end sink.NoMemory = end.NoMemory

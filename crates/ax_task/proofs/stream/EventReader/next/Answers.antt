@@ -1,0 +1,61 @@
+use Rattle.std.proofs.Common.{rules, ◌∙◌, sym, ap, arith}
+use Rattle.ax_input.specs.Events.{is_skipped}
+use Rattle.ax_task.proofs.Passing.{goes_on, next_skips, next_event_passes, next_err_passes, next_fails, next_lacks}
+use Rattle.ax_task.specs.Passes.{events_at}
+use Rattle.ax_task.proofs.stream.EventReader.next.Goals as goal
+
+pub returns-in-Err-clause-passes : goal.returns-in-Err-clause-passes
+returns-in-Err-clause-passes g c =
+    let left = g.S.Source.left in
+    let first = c.args.self.now in
+    let now = c.line.self in
+    let behind = c.event_at.new.self in
+    next_err_passes (events_at first.fields first.last c.args.lines.now) (events_at now.fields now.last c.line.lines) (events_at behind.fields behind.last c.next.new.self)
+    c.args.lines.now.held c.line.lines.held c.next.new.self.held (left c.args.input.now) (left c.line.input) (left c.next.new.input) c.line.lines c.next.new.self c.in-Ok-Some.line c.in-Err.end _ _
+    c.line.invariant.goes (rw c.in-Ok-Some.field-0-is at c.in-Ok-Some.ensures.read_here) c.in-Err.ensures.reads
+
+pub line-preserved : goal.line-preserved
+line-preserved g c =
+    let left = g.S.Source.left in
+    let first = c.args.self.now in
+    let now = c.line.self in
+    record {
+      same = search rules;
+      goes = goes_on (events_at first.fields first.last c.args.lines.now) (events_at now.fields now.last c.line.lines) (events_at now.fields now.last c.next.new.self) (left c.args.input.now) (left c.line.input) (left c.next.new.input)
+          c.args.lines.now.held c.line.lines.held c.next.new.self.held c.line.invariant.goes
+          (next_skips now.fields now.last (left c.line.input) (left c.next.new.input) c.line.lines c.next.new.self c.in-Ok-Some.line (rw c.in-Ok-Some.field-0-is at c.in-Ok-Some.ensures.read_here)
+          (ap is_skipped (sym c.as_slice.ensures) ∙ sym c.is_skipped.ensures ∙ c.if-not-is_skipped.false) (rw c.in-Ok-Some.field-0-is at c.in-Ok-Some.ensures.steps).1);
+      sound = search rules;
+      less = search rules;
+      faults = omega (arith, c.next.ensures.faults);
+    }
+
+pub returns-in-Err-Read-clause-passes : goal.returns-in-Err-Read-clause-passes
+returns-in-Err-Read-clause-passes g c =
+    let left = g.S.Source.left in
+    let first = c.args.self.now in
+    let now = c.line.self in
+    next_fails now.fields now.last (events_at first.fields first.last c.args.lines.now) c.args.lines.now.held (left c.args.input.now) (left c.line.input) (left c.next.new.input) c.line.lines c.next.new.self
+    c.line.invariant.goes (rw c.in-Err-Read.field-0-is at c.in-Err-Read.ensures.read_here)
+    (rw c.in-Err-Read.field-0-is at c.in-Err-Read.ensures.steps).0 (rw c.in-Err-Read.field-0-is at c.in-Err-Read.ensures.steps).1 ((rw c.in-Err-Read.field-0-is at c.in-Err-Read.ensures.waits) tt)
+
+pub returns-in-Err-NoMemory-clause-passes : goal.returns-in-Err-NoMemory-clause-passes
+returns-in-Err-NoMemory-clause-passes g c =
+    let left = g.S.Source.left in
+    let first = c.args.self.now in
+    let now = c.line.self in
+    next_lacks (events_at first.fields first.last c.args.lines.now) (events_at now.fields now.last c.line.lines) (events_at now.fields now.last c.next.new.self)
+    c.args.lines.now.held c.line.lines.held c.next.new.self.held (left c.args.input.now) (left c.line.input) (left c.next.new.input) c.line.lines c.next.new.self
+    c.line.invariant.goes (rw c.in-Err-NoMemory.field-0-is at c.in-Err-NoMemory.ensures.read_here)
+
+pub returns-in-Ok-clause-passes : goal.returns-in-Ok-clause-passes
+returns-in-Ok-clause-passes g c =
+    let left = g.S.Source.left in
+    let first = c.args.self.now in
+    let now = c.line.self in
+    let behind = c.event_at.new.self in
+    next_event_passes now.fields behind.fields now.last behind.last (events_at first.fields first.last c.args.lines.now) c.args.lines.now.held
+    (left c.args.input.now) (left c.line.input) (left c.next.new.input) c.line.lines c.next.new.self c.in-Ok-Some.line c.in-Ok.event
+    c.line.invariant.goes (rw c.in-Ok-Some.field-0-is at c.in-Ok-Some.ensures.read_here)
+    (ap is_skipped (sym c.as_slice.ensures) ∙ sym c.is_skipped.ensures ∙ c.if-not-is_skipped.true) (rw c.in-Ok-Some.field-0-is at c.in-Ok-Some.ensures.steps).1
+    c.in-Ok.ensures.reads c.in-Ok.ensures.fields c.in-Ok.ensures.last
