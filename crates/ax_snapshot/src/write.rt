@@ -80,7 +80,8 @@ fn put_keys(
 /// bytes, and the end with their number. Of each key come its states in order of their declaration, of which an empty one
 /// has no line, and then its timers. Of a key that stands twice the last counts. `NoMemory` is the only fault.
 ///
-/// Conditions: `m` is 1 to 32,768, and each key's states are of the declared kinds.
+/// Conditions: `m` is 1 to 32,768; at most 256 states are declared, since a state's number is a byte; and each key's states
+/// are of the declared kinds.
 pub fn write_snapshot(alloc: Global, s: &Snapshot, decls: &Decls, m: u16) -> Result<Bytes, NoMemory>
     requires groups { IsMaximum m }
     requires few { length decls.now ≤ 256 }
