@@ -20,8 +20,8 @@ use ax_state::KeyCells;
 use ax_time::Timers;
 use std::alloc::Global;
 
-/// How many key groups there are.
-pub const KEY_GROUPS: u16 = 128;
+// How many key groups there are.
+const KEY_GROUPS: u16 = 128;
 
 // What a key has.
 fn snap_key(
