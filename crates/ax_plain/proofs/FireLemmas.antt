@@ -1,6 +1,5 @@
 -- The timers that fire at a watermark, one after another.
-use Rattle.std.proofs.Common.{◌≡◌, ℕ, zero, suc, ◌+◌, ◌-◌, ◌*◌, ◌<◌, ◌≤◌, ℤ, int_le, List, [], ◌∷◌, ◌++◌, Bool, true, false, cond, length, Option, Some, None, IsSome, refl, sym, ap, ap₂, ◌∙◌, subst, append_assoc, append-nil}
-use Rattle.std.proofs.lemmas.Bool.{true≢false}
+use Rattle.std.proofs.Common.{◌≡◌, ℕ, zero, suc, ◌-◌, ◌*◌, ◌≤◌, ℤ, int_le, List, [], ◌∷◌, ◌++◌, Bool, true, false, cond, length, Option, Some, None, IsSome, refl, sym, ap, ap₂, ◌∙◌, subst, append_assoc, append-nil}
 use Rattle.std.proofs.lemmas.Map.Made.{is_some-lookup}
 use Rattle.std.specs.Io.KnownBytes.{Appends}
 use Rattle.std.specs.List.{list_any}
@@ -11,7 +10,6 @@ use Rattle.ax_base.proofs.OutsideLemmas.{Appends-none, Appends-more}
 use Rattle.ax_text.specs.declared.vocabulary.Kind.{Kind}
 use Rattle.ax_text.specs.Cells.{Cell, Cells}
 use Rattle.ax_text.specs.Exprs.{Facts}
-use Rattle.ax_text.specs.KeyStates.{KeyState}
 use Rattle.ax_text.specs.Programs.{Program, text_or_stop}
 use Rattle.ax_text.specs.Texts.{Text}
 use Rattle.ax_text.specs.Times.{least_time, later_times}
@@ -23,7 +21,7 @@ use Rattle.ax_time.proofs.KeptLemmas.{same_key}
 use Rattle.ax_machine.specs.Entries.{Key, Entry, says, text_of, entry_text}
 use Rattle.ax_machine.specs.Firings.{most_firings, one_less, total}
 use Rattle.ax_machine.specs.Firings as machine
-use Rattle.ax_machine.specs.Sync.{Map, Plain, put_at, does, without_least, firing_run, fire, fire_all, all_fired, silent}
+use Rattle.ax_machine.specs.Sync.{Map, Plain, does, without_least, firing_run, fire, fire_all, all_fired, silent}
 use Rattle.ax_machine.proofs.FiringLemmas.{key_is, total_most, fire_all_next, fire_all_end}
 use Rattle.ax_machine.proofs.StepLemmas.{fire_all_writes, text_of-append}
 use Rattle.ax_lang.specs.declared.program.Program.{Program as CodeProgram}

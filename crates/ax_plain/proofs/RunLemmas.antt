@@ -3,7 +3,6 @@ use Rattle.std.proofs.Common.{◌≡◌, ℕ, ℤ, pos, ◌+◌, ◌<◌, ◌≤
 use Rattle.std.proofs.lemmas.Bool.{eqb-true, eqb-false, cases_lt}
 use Rattle.std.proofs.lemmas.List.{append-nil, take-append-drop, take_at, take_all, get_or-replicate, length-replicate, get_or_past, get_or-set_same, get_or-set_other}
 use Rattle.std.specs.Io.KnownBytes.{Appends}
-use Rattle.std.specs.Str.{bytes_eq}
 use mathlib.Core.Path.{fun_ext}
 use Rattle.ax_base.proofs.OutsideLemmas.{Appends-none, Appends-more}
 use Rattle.ax_text.specs.declared.vocabulary.TimerOp.{TimerOp}
@@ -11,7 +10,7 @@ use Rattle.ax_text.specs.Functions.{upd}
 use Rattle.ax_text.specs.Exprs.{Facts, Names, value}
 use Rattle.ax_text.specs.Cells.{Cells}
 use Rattle.ax_text.specs.Texts.{Text, Stop, Act, Ask, Emit, Timer, Untimer}
-use Rattle.ax_text.specs.Run.{World, run, begun, act_in, ask_in, time_after, times_after}
+use Rattle.ax_text.specs.Run.{World, run, begun, act_in, ask_in, times_after}
 use Rattle.ax_time.specs.declared.timer.Timer.{Timer as CodeTimer}
 use Rattle.ax_time.specs.Timers.{times_of, PutsTimes}
 use Rattle.ax_time.proofs.KeptLemmas.{times_same}

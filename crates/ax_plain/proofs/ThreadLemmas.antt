@@ -25,7 +25,7 @@ use Rattle.ax_time.specs.declared.timer.Timer.{Timer}
 use Rattle.ax_time.specs.Timers.{times_of, PutsTimes}
 use Rattle.ax_time.proofs.KeptLemmas.{same_key}
 use Rattle.ax_time.proofs.SetLemmas.{inserted_again}
-use Rattle.ax_machine.specs.Entries.{Key, Entry, text_of}
+use Rattle.ax_machine.specs.Entries.{Key, text_of}
 use Rattle.ax_machine.specs.Sync.{Map, Plain, put_at, does, knows, row_step, silent}
 use Rattle.ax_machine.proofs.FiringLemmas.{key_is}
 use Rattle.ax_lang.specs.declared.program.Program.{Program}

@@ -3,9 +3,7 @@ use Rattle.std.specs.Prelude.{◌≡◌, ℕ, List, [], Option, Some, None}
 use Rattle.std.specs.BTreeMap.{BTreeMap, get, keys}
 use Rattle.ax_text.specs.declared.vocabulary.Kind.{Kind}
 use Rattle.ax_text.specs.Cells.{Cell, Cells}
-use Rattle.ax_text.specs.KeyStates.{KeyState}
 use Rattle.ax_text.specs.Programs.{untouched}
-use Rattle.ax_text.specs.Run.{World}
 use Rattle.ax_keys.specs.Keys.{key_cmp}
 use Rattle.ax_state.specs.KeyCells.{cells_of, kinds_in}
 use Rattle.ax_time.specs.declared.timer.Timer.{Timer}

@@ -1,8 +1,7 @@
-use Rattle.std.proofs.Common.{◌≡◌, ◌∙◌, ◌-◌, ℕ, ℤ, List, FitsSigned, w64, rules, arith, ap, sym, subst}
+use Rattle.std.proofs.Common.{◌∙◌, ◌-◌, ℤ, FitsSigned, w64, rules, arith, ap, sym, subst}
 use Rattle.std.proofs.Math.Facts.{to_z-of_z}
 use Rattle.std.specs.BTreeMap.{keys}
 use Rattle.ax_time.specs.Timers.{times_of}
-use Rattle.ax_machine.specs.Entries.{Key}
 use Rattle.ax_machine.specs.Firings.{most_firings}
 use Rattle.ax_machine.specs.Sync.{Plain, all_fired}
 use Rattle.ax_lang.specs.Shown.{shown, kinds_in}

@@ -1,4 +1,4 @@
-use Rattle.std.proofs.Common.{◌≡◌, ◌∙◌, List, None, ap, subst}
+use Rattle.std.proofs.Common.{◌≡◌, ◌∙◌, None, ap, subst}
 use Rattle.std.specs.BTreeMap.{get, keys}
 use mathlib.Core.Path.{fun_ext}
 use Rattle.ax_text.specs.Programs.{untouched}

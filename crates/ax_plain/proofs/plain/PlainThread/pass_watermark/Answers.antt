@@ -1,7 +1,7 @@
 use Rattle.std.proofs.Common.{◌≡◌, ◌∙◌, Bool, true, cond, int_lt, FitsSigned, w64, rules, sym, ap₂, subst}
 use Rattle.std.proofs.Math.Facts.{to_z-of_z}
 use Rattle.ax_machine.specs.Entries.{Watermark, text_of}
-use Rattle.ax_machine.specs.Sync.{Plain, all_fired, at_watermark, watermark_step, writes}
+use Rattle.ax_machine.specs.Sync.{all_fired, at_watermark, writes}
 use Rattle.ax_lang.specs.Shown.{shown, kinds_in}
 use Rattle.ax_plain.specs.Handler.{AppendsSome}
 use Rattle.ax_plain.specs.Plain.{plain_in}

@@ -1,4 +1,4 @@
-use Rattle.std.proofs.Common.{◌≡◌, ◌∙◌, List, Some, IsSome, ap, refl, subst}
+use Rattle.std.proofs.Common.{◌≡◌, IsSome, ap, refl, subst}
 use Rattle.std.specs.BTreeMap.{get}
 use Rattle.ax_text.specs.Cells.{Cells}
 use Rattle.ax_text.specs.Run.{times_after}

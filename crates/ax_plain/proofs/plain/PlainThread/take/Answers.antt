@@ -1,4 +1,4 @@
-use Rattle.std.proofs.Common.{◌≡◌, ◌∙◌, ℕ, ℤ, List, sym, ap, subst, append-nil}
+use Rattle.std.proofs.Common.{◌∙◌, ℕ, ℤ, List, sym, ap, subst, append-nil}
 use Rattle.ax_input.specs.Seen.{seen_event}
 use Rattle.ax_input.specs.declared.event.Event.{Event}
 use Rattle.ax_machine.specs.Entries.{Mark, entry_text, text_of}

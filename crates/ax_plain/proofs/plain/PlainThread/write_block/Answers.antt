@@ -1,9 +1,5 @@
-use Rattle.std.proofs.Common.{◌≡◌, ◌∙◌, ℕ, List, rules, subst}
-use Rattle.ax_machine.specs.Entries.{Mark, entry_text}
-use Rattle.ax_machine.specs.Sync.{block_of}
-use Rattle.ax_lang.specs.Shown.{shown, kinds_in}
+use Rattle.std.proofs.Common.{◌∙◌, ℕ, List, subst}
 use Rattle.ax_plain.specs.Handler.{AppendsSome}
-use Rattle.ax_plain.specs.Plain.{groups, plain_in}
 use Rattle.ax_plain.proofs.RunLemmas.{on_err}
 use Rattle.ax_plain.proofs.plain.PlainThread.write_block.Goals as goal
 
