@@ -8,7 +8,7 @@ use Rattle.ax_buffer.specs.declared.items.Item.{Item}
 use Rattle.ax_buffer.specs.declared.chain.Node.{Node}
 use Rattle.ax_buffer.specs.declared.chain.Chain.{Chain}
 use Rattle.ax_buffer.specs.Buffer.{Buffer, queue_of, total}
-use Rattle.ax_buffer.specs.Chains.{next_of, item_of, place, items_from, queue_in, empty_chain, chain_of, IsSound, buffer_in}
+use Rattle.ax_buffer.specs.Chains.{next_of, item_of, place, items_from, shown_queue, empty_chain, chain_of, IsSound, shown_buffer}
 use Rattle.ax_buffer.proofs.ListLemmas.{total_same, total-at, total-replicate, at_replicate, map-replicate}
 
 -- a place has an item where another with the same has one
@@ -91,14 +91,14 @@ length_items nodes first (suc n) h =
     omega (arith, length-append (items_from nodes first n) (item_of (get nodes (place nodes first n))), length_items nodes first n (λ m lt. h m (omega arith)), length_item (get nodes (place nodes first n)) (h n (omega arith)))
 
 -- what a buffer shows of its chains
-module _ (nodes : Slab Node) (chains : List Chain) (room : ℕ) (b : Buffer) (view : buffer_in nodes chains room ≡ b) where
+module _ (nodes : Slab Node) (chains : List Chain) (room : ℕ) (b : Buffer) (view : shown_buffer nodes chains room ≡ b) where
   pub shards_are : length b.queues ≡ length chains
-  shards_are = ap (λ (x : Buffer). length x.queues) (sym view) ∙ length-map chains (queue_in nodes)
+  shards_are = ap (λ (x : Buffer). length x.queues) (sym view) ∙ length-map chains (shown_queue nodes)
 
-  pub queue_is : (s : ℕ) → queue_of b s ≡ queue_in nodes (chain_of chains s)
+  pub queue_is : (s : ℕ) → queue_of b s ≡ shown_queue nodes (chain_of chains s)
   queue_is s =
-      ap (λ (x : Buffer). queue_of x s) (sym view) ∙ ap (λ d. get_or (map (queue_in nodes) chains) s d) (sym (items_none nodes 0))
-      ∙ get_or-map (queue_in nodes) chains s empty_chain
+      ap (λ (x : Buffer). queue_of x s) (sym view) ∙ ap (λ d. get_or (map (shown_queue nodes) chains) s d) (sym (items_none nodes 0))
+      ∙ get_or-map (shown_queue nodes) chains s empty_chain
 
   pub room_is : b.room ≡ room
   room_is = ap (λ (x : Buffer). x.room) (sym view)
@@ -125,7 +125,7 @@ module _ (nodes : Slab Node) (chains : List Chain) (room : ℕ) (b : Buffer) (vi
   pub total_is : IsSound nodes chains room → total length b.queues ≡ slab_len nodes
   total_is sound =
       ap (λ (x : Buffer). total length x.queues) (sym view)
-      ∙ total_same (λ (c : Chain). c.length) length (queue_in nodes) chains empty_chain (λ t lt. length_items nodes (chain_of chains t).first (chain_of chains t).length (sound.live t))
+      ∙ total_same (λ (c : Chain). c.length) length (shown_queue nodes) chains empty_chain (λ t lt. length_items nodes (chain_of chains t).first (chain_of chains t).length (sound.live t))
       ∙ sound.counted
 
 -- the last item of a chain is there, and the first
@@ -151,13 +151,13 @@ sound_empty nodes n room e held small =
       small = small;
     }
 
-pub queues_empty : (nodes : Slab Node) (n : ℕ) → map (queue_in nodes) (replicate n empty_chain) ≡ replicate n []
-queues_empty nodes n = map-replicate (queue_in nodes) n empty_chain ∙ ap (replicate n) (items_none nodes 0)
+pub queues_empty : (nodes : Slab Node) (n : ℕ) → map (shown_queue nodes) (replicate n empty_chain) ≡ replicate n []
+queues_empty nodes n = map-replicate (shown_queue nodes) n empty_chain ∙ ap (replicate n) (items_none nodes 0)
 
 -- a chain is short, since all together have at most so many items
 pub short_chain : (nodes : Slab Node) (chains : List Chain) (room s : ℕ) → IsSound nodes chains room → s < length chains → (chain_of chains s).length ≤ slab_len nodes
 short_chain nodes chains room s sound there =
     omega (arith, total-at (λ (c : Chain). c.length) chains s empty_chain there, sound.counted)
 
-pub total_empty : (nodes : Slab Node) (n : ℕ) → total length (map (queue_in nodes) (replicate n empty_chain)) ≡ 0
+pub total_empty : (nodes : Slab Node) (n : ℕ) → total length (map (shown_queue nodes) (replicate n empty_chain)) ≡ 0
 total_empty nodes n = ap (total length) (queues_empty nodes n) ∙ total-replicate length n [] refl

@@ -6,7 +6,7 @@ use Rattle.ax_buffer.specs.declared.items.Item.{Item}
 use Rattle.ax_buffer.specs.declared.chain.Node.{Node}
 use Rattle.ax_buffer.specs.declared.chain.Chain.{Chain}
 use Rattle.ax_buffer.specs.Buffer.{Buffer, queue_of, total}
-use Rattle.ax_buffer.specs.Chains.{next_of, item_of, place, items_from, queue_in, empty_chain, chain_of, place_of, IsSound, IsAppended, buffer_in}
+use Rattle.ax_buffer.specs.Chains.{next_of, item_of, place, items_from, shown_queue, empty_chain, chain_of, place_of, IsSound, IsAppended, shown_buffer}
 use Rattle.ax_buffer.proofs.ListLemmas.{at_set, total-set, total_pushed, map_one}
 use Rattle.ax_buffer.proofs.ChainLemmas.{vacant_differs, live_by_item, live_stored, place_same, items_same, items_more, place_more, place_first, shards_are, queue_is}
 
@@ -117,7 +117,7 @@ module _ (old new : Slab Node) (chains : List Chain) (room s : ℕ) (longer : Ch
         small = sound.small;
       }
 
-  longer_queue : queue_in new longer ≡ queue_in old (chain_of chains s) ++ item ∷ []
+  longer_queue : shown_queue new longer ≡ shown_queue old (chain_of chains s) ++ item ∷ []
   longer_queue =
       ap (items_from new longer.first) told.longer_by_one ∙ items_more new longer.first (chain_of chains s).length
       ∙ ap₂ (λ xs ys. xs ++ ys)
@@ -125,13 +125,13 @@ module _ (old new : Slab Node) (chains : List Chain) (room s : ℕ) (longer : Ch
       (ap (λ p. item_of (get new p)) at_end ∙ told.stored)
 
   -- the queues behind the push
-  pub queues_pushed : (b : Buffer) → buffer_in old chains room ≡ b → map (queue_in new) (set chains s longer) ≡ set b.queues s (queue_of b s ++ item ∷ [])
+  pub queues_pushed : (b : Buffer) → shown_buffer old chains room ≡ b → map (shown_queue new) (set chains s longer) ≡ set b.queues s (queue_of b s ++ item ∷ [])
   queues_pushed b view =
-      map_one (queue_in new) (queue_in old) chains s longer empty_chain (queue_of b s ++ item ∷ [])
+      map_one (shown_queue new) (shown_queue old) chains s longer empty_chain (queue_of b s ++ item ∷ [])
       (longer_queue ∙ ap (λ xs. xs ++ item ∷ []) (sym (queue_is old chains room b view s)))
       (λ t lt differs. items_same old new (chain_of chains t).first (chain_of chains t).first (chain_of chains t).length (λ m below. stays t m below) (λ m below. kept_items t m below))
       ∙ ap (λ (x : Buffer). set x.queues s (queue_of b s ++ item ∷ [])) view
 
-  pub total_after : (b : Buffer) → buffer_in old chains room ≡ b → total length (map (queue_in new) (set chains s longer)) ≡ total length b.queues + 1
+  pub total_after : (b : Buffer) → shown_buffer old chains room ≡ b → total length (map (shown_queue new) (set chains s longer)) ≡ total length b.queues + 1
   total_after b view =
       ap (total length) (queues_pushed b view) ∙ total_pushed b.queues s item (omega (arith, there, shards_are old chains room b view))

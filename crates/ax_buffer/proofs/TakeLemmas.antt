@@ -7,7 +7,7 @@ use Rattle.ax_buffer.specs.declared.items.Item.{Item}
 use Rattle.ax_buffer.specs.declared.chain.Node.{Node}
 use Rattle.ax_buffer.specs.declared.chain.Chain.{Chain}
 use Rattle.ax_buffer.specs.Buffer.{Buffer, queue_of, total}
-use Rattle.ax_buffer.specs.Chains.{next_of, item_of, place, items_from, queue_in, empty_chain, chain_of, place_of, IsSound, IsDetached, buffer_in}
+use Rattle.ax_buffer.specs.Chains.{next_of, item_of, place, items_from, shown_queue, empty_chain, chain_of, place_of, IsSound, IsDetached, shown_buffer}
 use Rattle.ax_buffer.proofs.ListLemmas.{at_set, total-set, total_taken, map_one}
 use Rattle.ax_buffer.proofs.ChainLemmas.{place_same, items_same, items_behind, place_behind, place_first, shards_are, queue_is}
 
@@ -93,9 +93,9 @@ module _ (old new : Slab Node) (chains : List Chain) (room s : ℕ) (shorter : C
       }
 
   -- the queue behind the first item
-  shorter_queue : queue_in old (chain_of chains s) ≡ item_of (get old (chain_of chains s).first) ++ queue_in new shorter
+  shorter_queue : shown_queue old (chain_of chains s) ≡ item_of (get old (chain_of chains s).first) ++ shown_queue new shorter
   shorter_queue =
-      let kept : queue_in new shorter ≡ items_from old (next_of (get old (chain_of chains s).first)) shorter.length =
+      let kept : shown_queue new shorter ≡ items_from old (next_of (get old (chain_of chains s).first)) shorter.length =
       items_same old new shorter.first shorter.first shorter.length behind_stays (λ m lt. ap item_of (told.freed.others (place old shorter.first m) (not_first m lt)))
       ∙ ap (λ f. items_from old f shorter.length) told.first
       in
@@ -103,23 +103,23 @@ module _ (old new : Slab Node) (chains : List Chain) (room s : ℕ) (shorter : C
       ∙ ap (λ xs. item_of (get old (chain_of chains s).first) ++ xs) (sym kept)
 
   -- what the buffer shows of it
-  shown : get_or (map (queue_in new) (set chains s shorter)) s [] ≡ queue_in new shorter
+  shown : get_or (map (shown_queue new) (set chains s shorter)) s [] ≡ shown_queue new shorter
   shown =
-      queue_is new (set chains s shorter) room (buffer_in new (set chains s shorter) room) refl s
-      ∙ ap (queue_in new) (get_or-set_same chains s shorter empty_chain there)
+      queue_is new (set chains s shorter) room (shown_buffer new (set chains s shorter) room) refl s
+      ∙ ap (shown_queue new) (get_or-set_same chains s shorter empty_chain there)
 
-  module _ (b : Buffer) (view : buffer_in old chains room ≡ b) where
-    pub first_taken : queue_of b s ≡ item ∷ get_or (map (queue_in new) (set chains s shorter)) s []
+  module _ (b : Buffer) (view : shown_buffer old chains room ≡ b) where
+    pub first_taken : queue_of b s ≡ item ∷ get_or (map (shown_queue new) (set chains s shorter)) s []
     first_taken = queue_is old chains room b view s ∙ shorter_queue ∙ ap₂ (λ xs ys. xs ++ ys) told.taken (sym shown)
 
-    pub queues_taken : map (queue_in new) (set chains s shorter) ≡ set b.queues s (get_or (map (queue_in new) (set chains s shorter)) s [])
+    pub queues_taken : map (shown_queue new) (set chains s shorter) ≡ set b.queues s (get_or (map (shown_queue new) (set chains s shorter)) s [])
     queues_taken =
-        map_one (queue_in new) (queue_in old) chains s shorter empty_chain (get_or (map (queue_in new) (set chains s shorter)) s []) (sym shown)
+        map_one (shown_queue new) (shown_queue old) chains s shorter empty_chain (get_or (map (shown_queue new) (set chains s shorter)) s []) (sym shown)
         (λ t lt differs. items_same old new (chain_of chains t).first (chain_of chains t).first (chain_of chains t).length (λ m below. stays t m differs below)
         (λ m below. ap item_of (told.freed.others (place_of old chains t m) (elsewhere t m below (λ e. absurd (differs e))))))
-        ∙ ap (λ (x : Buffer). set x.queues s (get_or (map (queue_in new) (set chains s shorter)) s [])) view
+        ∙ ap (λ (x : Buffer). set x.queues s (get_or (map (shown_queue new) (set chains s shorter)) s [])) view
 
-    pub total_after : total length (map (queue_in new) (set chains s shorter)) + 1 ≡ total length b.queues
+    pub total_after : total length (map (shown_queue new) (set chains s shorter)) + 1 ≡ total length b.queues
     total_after =
         ap (λ qs. total length qs + 1) queues_taken
-        ∙ total_taken b.queues s item (get_or (map (queue_in new) (set chains s shorter)) s []) (omega (arith, there, shards_are old chains room b view)) first_taken
+        ∙ total_taken b.queues s item (get_or (map (shown_queue new) (set chains s shorter)) s []) (omega (arith, there, shards_are old chains room b view)) first_taken

@@ -28,8 +28,8 @@ items_from nodes first zero = []
 items_from nodes first (suc n) = items_from nodes first n ++ item_of (get nodes (place nodes first n))
 
 -- the queue that a chain is
-abbrev pub queue_in : Slab Node → Chain → List Item
-queue_in nodes chain = items_from nodes chain.first chain.length
+abbrev pub shown_queue : Slab Node → Chain → List Item
+shown_queue nodes chain = items_from nodes chain.first chain.length
 
 abbrev pub empty_chain : Chain
 empty_chain = record { first = 0; last = 0; length = 0 }
@@ -53,8 +53,8 @@ pub record IsSound (nodes : Slab Node) (chains : List Chain) (room : ℕ) : Type
   pub small : room < 2 ^ 32
 
 -- the buffer that chains in an arena are
-abbrev pub buffer_in : Slab Node → List Chain → ℕ → Buffer
-buffer_in nodes chains room = record { queues = map (queue_in nodes) chains; room = room }
+abbrev pub shown_buffer : Slab Node → List Chain → ℕ → Buffer
+shown_buffer nodes chains room = record { queues = map (shown_queue nodes) chains; room = room }
 
 -- the arena and the chain behind a push: the item lies at a place that was free, and follows what was last
 pub record IsAppended (old new : Slab Node) (chain longer : Chain) (item : Item) : Type 0 where

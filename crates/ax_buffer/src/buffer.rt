@@ -28,9 +28,9 @@ impl Model for RequestBuffer {
 
     ghost Value = { Buffer };
 
-    ghost use Rattle.ax_buffer.specs.Chains.{IsSound, buffer_in};
+    ghost use Rattle.ax_buffer.specs.Chains.{IsSound, shown_buffer};
 
-    ghost view = { λ b. buffer_in b.nodes b.chains.items b.room };
+    ghost view = { λ b. shown_buffer b.nodes b.chains.items b.room };
 
     ghost invariant = { λ b. IsSound b.nodes b.chains.items b.room };
 }

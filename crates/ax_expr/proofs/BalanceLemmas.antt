@@ -1,10 +1,10 @@
--- Marks that balance have a tree, and others have none.
+-- Tokens that balance have a tree, and others have none.
 use Rattle.std.proofs.Common.{◌≡◌, ◌∙◌, ℕ, zero, suc, ◌+◌, ◌-◌, List, [], ◌∷◌, Bool, true, false, Some, None, Option, refl, ap, subst, arith, eqb-true}
 use Rattle.std.specs.Prelude.{◌&&◌, nat_lt, nat_le, if◌then◌else◌}
 use Rattle.std.proofs.lemmas.Bool.Decides.{nat_tests}
 use Rattle.ax_text.specs.declared.vocabulary.Op.{Op}
-use Rattle.ax_expr.specs.declared.tree.Mark.{Mark}
-use Rattle.ax_expr.specs.declared.tree.Mark.TheVariants.{Operand, Open, Close, Sign}
+use Rattle.ax_expr.specs.declared.tree.Token.{Token}
+use Rattle.ax_expr.specs.declared.tree.Token.TheVariants.{Operand, Open, Close, Sign}
 use Rattle.ax_text.specs.Exprs.{Expr, Leaf, Join}
 use Rattle.ax_expr.specs.Levels.{level_of}
 use Rattle.ax_expr.specs.Reading.{Waiting, Opened, Before, joined, whole, closed, with_some, walk}
@@ -53,7 +53,7 @@ and_right : (a b : Bool) → a && b ≡ true → b ≡ true
 and_right true b h = h
 and_right false b h = cc
 
-balanced : (ms : List Mark) (n : ℕ) (o : Option Expr) (ws : List Waiting) → depth ws ≡ n → goes_on n (has o) ms ≡ true → (t : Expr) × (walk o ws ms ≡ Some t)
+balanced : (ms : List Token) (n : ℕ) (o : Option Expr) (ws : List Waiting) → depth ws ≡ n → goes_on n (has o) ms ≡ true → (t : Expr) × (walk o ws ms ≡ Some t)
 unfolding has
 balanced [] n None ws d h = cc
 balanced [] n (Some x) ws d h = ends x ws (d ∙ eqb-true n 0 h)
@@ -72,7 +72,7 @@ balanced (Close ∷ ms) (suc n) (Some x) ws d h =
     (r.0, ap (λ (o : Option (List Waiting)). with_some o (λ rest. walk (Some (joined 0 x ws).value) rest ms)) c.1 ∙ r.1)
 balanced (Sign o ∷ ms) n (Some x) ws d h = balanced ms n None (Before (joined (level_of o) x ws).value o ∷ (joined (level_of o) x ws).waiting) (joined_depth (level_of o) x ws ∙ d) h
 
-pub has_tree : (ms : List Mark) → HasTree ms
+pub has_tree : (ms : List Token) → HasTree ms
 unfolding has
 has_tree ms h = balanced ms 0 None [] refl h
 
@@ -94,7 +94,7 @@ unopened x [] h = refl
 unopened x (Opened ∷ ws) h = absurd (omega arith)
 unopened x (Before l o ∷ ws) h = ap (λ j. closed j.waiting) (joined_on x l o ws) ∙ unopened (Join o l x) ws h
 
-unbalanced : (ms : List Mark) (n : ℕ) (o : Option Expr) (ws : List Waiting) → depth ws ≡ n → goes_on n (has o) ms ≡ false → walk o ws ms ≡ None
+unbalanced : (ms : List Token) (n : ℕ) (o : Option Expr) (ws : List Waiting) → depth ws ≡ n → goes_on n (has o) ms ≡ false → walk o ws ms ≡ None
 unfolding has
 unbalanced [] n None ws d h = refl
 unbalanced [] zero (Some x) ws d h = cc
@@ -114,6 +114,6 @@ unbalanced (Close ∷ ms) (suc n) (Some x) ws d h =
     ap (λ (o : Option (List Waiting)). with_some o (λ rest. walk (Some (joined 0 x ws).value) rest ms)) c.1 ∙ r
 unbalanced (Sign o ∷ ms) n (Some x) ws d h = unbalanced ms n None (Before (joined (level_of o) x ws).value o ∷ (joined (level_of o) x ws).waiting) (joined_depth (level_of o) x ws ∙ d) h
 
-pub has_no_tree : (ms : List Mark) → HasNoTree ms
+pub has_no_tree : (ms : List Token) → HasNoTree ms
 unfolding has
 has_no_tree ms h = unbalanced ms 0 None [] refl h

@@ -4,8 +4,8 @@ use Rattle.std.proofs.lemmas.Bool.Decides.{nat_tests}
 use Rattle.std.proofs.lemmas.List.{append-nil}
 use Rattle.std.specs.Prelude.{nat_le, if◌then◌else◌}
 use Rattle.ax_text.specs.declared.vocabulary.Op.{Op}
-use Rattle.ax_expr.specs.declared.tree.Mark.{Mark}
-use Rattle.ax_expr.specs.declared.tree.Mark.TheVariants.{Open, Close, Sign}
+use Rattle.ax_expr.specs.declared.tree.Token.{Token}
+use Rattle.ax_expr.specs.declared.tree.Token.TheVariants.{Open, Close, Sign}
 use Rattle.ax_text.specs.Exprs.{Expr, Leaf, Join}
 use Rattle.ax_expr.specs.Levels.{level_of}
 use Rattle.ax_expr.specs.Reading.{Waiting, Opened, Before, Joined, joined, whole, closed, with_some, walk}
@@ -31,11 +31,11 @@ joined_looser m n x (Before l o ∷ ws) h k = ap (λ (b : Bool). if b then joine
 joined_before : (m : ℕ) (x l : Expr) (o : Op) (ws : List Waiting) → m ≤ level_of o → joined m x (Before l o ∷ ws) ≡ joined m (Join o l x) ws
 joined_before m x l o ws h = ap (λ (b : Bool). if b then joined m (Join o l x) ws else record { value = x; waiting = Before l o ∷ ws }) (at_least m (level_of o) h)
 
--- marks were read that stand for a tree
-record ReadAs (n : ℕ) (t : Expr) (ws : List Waiting) (marks : List Mark) : Type 0 where
+-- tokens were read that stand for a tree
+record ReadAs (n : ℕ) (t : Expr) (ws : List Waiting) (tokens : List Token) : Type 0 where
   value : Expr
   waiting : List Waiting
-  goes : (ms : List Mark) → walk None ws (marks ++ ms) ≡ walk (Some value) waiting ms
+  goes : (ms : List Token) → walk None ws (tokens ++ ms) ≡ walk (Some value) waiting ms
   same : (m : ℕ) → m ≤ n → joined m value waiting ≡ joined m t ws
 
 bare : (n : ℕ) (o : Op) (a b : Expr) (ws : List Waiting) → n ≤ level_of o → Looser n ws
@@ -53,21 +53,21 @@ bare n o a b ws h k one two =
       same = λ m u. two.same m (omega arith) ∙ joined_before m b a o ws (omega arith);
     }
 
-inside : (n : ℕ) (o : Op) (a b : Expr) (ws : List Waiting) (marks : List Mark) → ReadAs (level_of o) (Join o a b) (Opened ∷ ws) marks → ReadAs n (Join o a b) ws (Open ∷ (marks ++ Close ∷ []))
-inside n o a b ws marks r =
+inside : (n : ℕ) (o : Op) (a b : Expr) (ws : List Waiting) (tokens : List Token) → ReadAs (level_of o) (Join o a b) (Opened ∷ ws) tokens → ReadAs n (Join o a b) ws (Open ∷ (tokens ++ Close ∷ []))
+inside n o a b ws tokens r =
     let j : joined 0 r.value r.waiting ≡ record { value = Join o a b; waiting = Opened ∷ ws } = r.same 0 (omega arith) in
     record {
       value = Join o a b;
       waiting = ws;
-      goes = λ ms. ap (walk None (Opened ∷ ws)) (append_assoc marks (Close ∷ []) ms)
+      goes = λ ms. ap (walk None (Opened ∷ ws)) (append_assoc tokens (Close ∷ []) ms)
           ∙ (r.goes (Close ∷ ms) ∙ ap (λ (it : Joined). with_some (closed it.waiting) (λ rest. walk (Some it.value) rest ms)) j);
       same = λ m u. refl;
     }
 
-picked : (n : ℕ) (o : Op) (a b : Expr) (ws : List Waiting) (marks : List Mark) (bit : Bool) → nat_le n (level_of o) ≡ bit
-    → (n ≤ level_of o → ReadAs n (Join o a b) ws marks) → ReadAs (level_of o) (Join o a b) (Opened ∷ ws) marks → ReadAs n (Join o a b) ws (bracketed bit marks)
-picked n o a b ws marks true e x y = x (grind (arith, nat_tests))
-picked n o a b ws marks false e x y = inside n o a b ws marks y
+picked : (n : ℕ) (o : Op) (a b : Expr) (ws : List Waiting) (tokens : List Token) (bit : Bool) → nat_le n (level_of o) ≡ bit
+    → (n ≤ level_of o → ReadAs n (Join o a b) ws tokens) → ReadAs (level_of o) (Join o a b) (Opened ∷ ws) tokens → ReadAs n (Join o a b) ws (bracketed bit tokens)
+picked n o a b ws tokens true e x y = x (grind (arith, nat_tests))
+picked n o a b ws tokens false e x y = inside n o a b ws tokens y
 
 read_as : (t : Expr) (n : ℕ) (ws : List Waiting) → Looser n ws → ReadAs n t ws (spelled n t)
 read_as (Leaf a) n ws k = record { value = Leaf a; waiting = ws; goes = λ ms. refl; same = λ m u. refl }

@@ -1,4 +1,4 @@
-pub mod Seen
+pub mod Shown
 pub mod Levels
 pub mod Scopes
 pub mod Reading

@@ -1,6 +1,6 @@
-//! Expressions: their trees, how they are read from marks, and their value.
+//! Expressions: their trees, how they are read from tokens, and their value.
 //!
-//! A tree here stands for an expression of the definitions; `seen` says which.
+//! A tree here stands for an expression of the definitions; `shown_expr` says which.
 #![tactic(auto)]
 
 pub mod laws;
@@ -12,5 +12,5 @@ pub mod value;
 
 pub use laws::{refusal_law, spelling_law, tree_law};
 pub use read::{Refusal, read_expr};
-pub use tree::{Expr, Mark};
+pub use tree::{Expr, Token};
 pub use value::Scope;

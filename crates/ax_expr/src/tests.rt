@@ -1,5 +1,5 @@
 //! Expressions as they are written, with their values.
-use crate::{Expr, Mark, Refusal, Scope, read_expr};
+use crate::{Expr, Token, Refusal, Scope, read_expr};
 use ax_text::{Atom, Op};
 use std::alloc::Global;
 
@@ -34,25 +34,25 @@ fn atom_of(word: &str) -> Atom {
     }
 }
 
-fn mark_of(word: &str) -> Mark {
+fn token_of(word: &str) -> Token {
     match word {
-        "(" => Mark::Open,
-        ")" => Mark::Close,
+        "(" => Token::Open,
+        ")" => Token::Close,
         _ => match sign_of(word) {
-            Some(op) => Mark::Sign(op),
-            None => Mark::Operand(atom_of(word)),
+            Some(op) => Token::Sign(op),
+            None => Token::Operand(atom_of(word)),
         },
     }
 }
 
 fn read(alloc: Global, text: &str) -> Result<Expr, Refusal> {
-    let mut marks = Vec::new(alloc);
+    let mut tokens = Vec::new(alloc);
     for word in text.split_whitespace() {
-        if marks.push(mark_of(word)).is_err() {
+        if tokens.push(token_of(word)).is_err() {
             return Err(Refusal::NoMemory);
         }
     }
-    read_expr(alloc, &marks)
+    read_expr(alloc, &tokens)
 }
 
 #[test]

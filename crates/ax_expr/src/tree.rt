@@ -13,7 +13,7 @@ pub enum Expr {
 
 /// What a word is in an expression.
 #[derive(Clone, Copy, Debug, PartialEq, Eq)]
-pub enum Mark {
+pub enum Token {
     /// A number, a name, a value of the row, or a time.
     Operand(Atom),
     /// `(`

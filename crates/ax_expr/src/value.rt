@@ -1,8 +1,8 @@
 //! The value of an expression.
 ghost use Rattle.std.specs.Prelude.{◌≡◌};
 ghost use Rattle.ax_text.specs.Exprs.{apply_op, atom_value, value};
-ghost use Rattle.ax_expr.specs.Seen.{seen};
-ghost use Rattle.ax_expr.specs.Scopes.{facts_of, names_of};
+ghost use Rattle.ax_expr.specs.Shown.{shown_expr};
+ghost use Rattle.ax_expr.specs.Scopes.{shown_facts, shown_names};
 
 use crate::tree::Expr;
 use ax_text::{Atom, Op};
@@ -51,7 +51,7 @@ fn apply_op(op: Op, pair: &Pair) -> i64
 
 // The number that an operand stands for.
 fn atom_value(scope: &Scope<'_>, atom: &Atom) -> i64
-    ensures { result ≡ atom_value (facts_of scope.now) (names_of scope.now) atom.now }
+    ensures { result ≡ atom_value (shown_facts scope.now) (shown_names scope.now) atom.now }
 {
     match atom {
         Atom::Number(n) => *n,
@@ -65,9 +65,9 @@ fn atom_value(scope: &Scope<'_>, atom: &Atom) -> i64
 impl Expr {
     /// The value of the expression. Sums, differences and products wrap at 64 bits, a comparison gives 1 or 0, and a
     /// division or a remainder by 0 gives 0. No memory is taken; the calls nest as deep as the tree.
-    #[tactic(auto, using(crate::proofs::SeenLemmas::seen_leaf, crate::proofs::SeenLemmas::seen_join))]
+    #[tactic(auto, using(crate::proofs::ShownLemmas::shown_leaf, crate::proofs::ShownLemmas::shown_join))]
     pub fn value(&self, scope: &Scope<'_>) -> i64
-        ensures { result ≡ value (facts_of scope.now) (names_of scope.now) (seen self.now) }
+        ensures { result ≡ value (shown_facts scope.now) (shown_names scope.now) (shown_expr self.now) }
     {
         match self {
             Expr::Leaf(atom) => atom_value(scope, atom),

@@ -1,7 +1,7 @@
 pub mod Spellings
 pub mod Events
 pub mod OutLines
-pub mod Seen
+pub mod Shown
 pub mod Reads
 pub mod Drafts
 pub mod Laws

@@ -3,7 +3,7 @@ use Rattle.std.specs.Prelude.{◌≡◌, ℕ, List, ◌∷◌, length, Option, S
 use Rattle.ax_base.specs.Words.{words_of}
 use Rattle.ax_syntax.specs.Words.{Word}
 use Rattle.ax_input.specs.Events.{EventRead, Good, Bad, row_by}
-use Rattle.ax_input.specs.Seen.{seen_event}
+use Rattle.ax_input.specs.Shown.{shown_event}
 use Rattle.ax_input.specs.declared.event.Event.{Event}
 use Rattle.ax_input.specs.declared.event.EventFault.{EventFault}
 use Rattle.ax_input.specs.declared.event.EventFault.TheVariants as fault
@@ -16,7 +16,7 @@ SplitsRow fields words (Some w) = (words ≡ w.key.now ∷ w.time.now ∷ words_
 
 -- the event of a line, or the kind of its fault
 abbrev pub ReadsEvent : EventRead → Result Event EventFault → Type 0
-ReadsEvent r (Ok e) = r ≡ Good (seen_event e)
+ReadsEvent r (Ok e) = r ≡ Good (shown_event e)
 ReadsEvent r (Err fault.Word) = r ≡ Bad 1
 ReadsEvent r (Err fault.Key) = r ≡ Bad 2
 ReadsEvent r (Err fault.Number) = r ≡ Bad 3

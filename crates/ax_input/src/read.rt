@@ -3,7 +3,7 @@ ghost use Rattle.std.specs.Prelude.{◌≡◌, true, false, IfOk, MatchOption};
 ghost use Rattle.ax_base.specs.Words.{words_of};
 ghost use Rattle.ax_input.specs.Spellings.{one_number, two_numbers};
 ghost use Rattle.ax_input.specs.OutLines.{is_place, out_of, mark_by, head_by, value_of, item_of, entry_of, timer_of, end_by, snap_line_by, out_line_of};
-ghost use Rattle.ax_input.specs.Seen.{snap_some, line_some};
+ghost use Rattle.ax_input.specs.Shown.{snap_some, line_some};
 
 use crate::line::{OutLine, SnapLine};
 use crate::numbers::{few_words, numbers, one_number, two_numbers};

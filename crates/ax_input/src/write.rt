@@ -4,7 +4,7 @@ ghost use Rattle.std.specs.Fmt.{signed_decimal, decimal};
 ghost use Rattle.ax_machine.specs.Entries.{Out as OutEntry, Mark as MarkEntry, Watermark, entry_text};
 ghost use Rattle.ax_input.specs.Events.{event_text};
 ghost use Rattle.ax_machine.specs.OutLines.{spelled, Out, Mark, Head, Value, Item, Entry, Timer, End, behind_spaces};
-ghost use Rattle.ax_input.specs.Seen.{seen_event, seen_snap, seen_line};
+ghost use Rattle.ax_input.specs.Shown.{shown_event, shown_snap, shown_line};
 
 use crate::draft::Draft;
 use crate::event::Event;
@@ -156,7 +156,7 @@ fn draft_end(draft: &mut Draft, id: i64, count: u64) -> Result<(), NoMemory>
 // Writes the line of a block.
 fn draft_snap_line(draft: &mut Draft, line: &SnapLine) -> Result<(), NoMemory>
     ensures front { draft.new.front ≡ draft.old.front }
-    ensures line { OnOk result (draft.new.line ≡ draft.old.line ++ spelled (seen_snap line.now)) }
+    ensures line { OnOk result (draft.new.line ≡ draft.old.line ++ spelled (shown_snap line.now)) }
 {
     match line {
         SnapLine::Head { id, wm } => draft_head(draft, *id, *wm),
@@ -176,7 +176,7 @@ fn draft_snap_line(draft: &mut Draft, line: &SnapLine) -> Result<(), NoMemory>
 // Writes an output line.
 fn draft_line(draft: &mut Draft, line: &OutLine) -> Result<(), NoMemory>
     ensures front { draft.new.front ≡ draft.old.front }
-    ensures line { OnOk result (draft.new.line ≡ draft.old.line ++ spelled (seen_line line.now)) }
+    ensures line { OnOk result (draft.new.line ≡ draft.old.line ++ spelled (shown_line line.now)) }
 {
     match line {
         OutLine::Out { key, values } => draft_out(draft, key, values.as_slice()),
@@ -188,7 +188,7 @@ fn draft_line(draft: &mut Draft, line: &OutLine) -> Result<(), NoMemory>
 // Writes an event.
 fn draft_event(draft: &mut Draft, event: &Event) -> Result<(), NoMemory>
     ensures front { draft.new.front ≡ draft.old.front }
-    ensures line { OnOk result (draft.new.line ≡ draft.old.line ++ event_text (seen_event event.now)) }
+    ensures line { OnOk result (draft.new.line ≡ draft.old.line ++ event_text (shown_event event.now)) }
 {
     match event {
         Event::Row { key, time, values } => {
@@ -210,7 +210,7 @@ fn draft_event(draft: &mut Draft, event: &Event) -> Result<(), NoMemory>
 /// Appends an event with its line feed: its words with one space between them, and numbers without leading zeros. After
 /// `NoMemory` the bytes are as before. A row with at most 16 values is read back by `read_event` with as many fields.
 pub fn put_event(alloc: Global, out: &mut Bytes, event: &Event) -> Result<(), NoMemory>
-    ensures ok { OnOk result (out.new ≡ out.old ++ event_text (seen_event event.now)) }
+    ensures ok { OnOk result (out.new ≡ out.old ++ event_text (shown_event event.now)) }
     ensures err { OnErr result (out.new ≡ out.old) }
 {
     let mut draft = Draft::behind(alloc, out);
@@ -289,7 +289,7 @@ pub fn put_end(alloc: Global, out: &mut Bytes, id: i64, count: u64) -> Result<()
 /// Appends an output line with its line feed: its words with one space between them, and numbers without leading zeros.
 /// After `NoMemory` the bytes are as before.
 pub fn put_out_line(alloc: Global, out: &mut Bytes, line: &OutLine) -> Result<(), NoMemory>
-    ensures ok { OnOk result (out.new ≡ out.old ++ spelled (seen_line line.now)) }
+    ensures ok { OnOk result (out.new ≡ out.old ++ spelled (shown_line line.now)) }
     ensures err { OnErr result (out.new ≡ out.old) }
 {
     let mut draft = Draft::behind(alloc, out);

@@ -5,4 +5,4 @@ pub mod LinkLemmas
 pub mod SoundLemmas
 pub mod ShapeLemmas
 pub mod ReadingLemmas
-pub mod MarkLemmas
+pub mod TokenLemmas

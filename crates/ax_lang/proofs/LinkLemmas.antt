@@ -8,28 +8,28 @@ use Rattle.ax_text.specs.declared.vocabulary.Kind.{Kind}
 use Rattle.ax_text.specs.Texts.{Text, Stop}
 use Rattle.ax_lang.specs.declared.step.Stmt.{Stmt}
 use Rattle.ax_lang.specs.declared.step.Step.{Step}
-use Rattle.ax_lang.specs.Rows.{Row, with_row, text_of}
-use Rattle.ax_lang.specs.Steps.{row_in, text_in, texts_from, text_at, GoesOn, stmt_fits, steps_fit}
+use Rattle.ax_lang.specs.Rows.{Statement, with_row, text_of}
+use Rattle.ax_lang.specs.Steps.{shown_statement, text_in, texts_from, text_at, GoesOn, stmt_fits, steps_fit}
 use Rattle.ax_lang.proofs.StepLemmas.{text_more, text_last, texts_length}
 
 -- rows before a text
-abbrev pub rows_before : List Row → Text → Text
+abbrev pub rows_before : List Statement → Text → Text
 rows_before [] t = t
 rows_before (r ∷ rs) t = with_row r (rows_before rs t)
 
-pub before_stop : (rs : List Row) → rows_before rs Stop ≡ text_of rs
+pub before_stop : (rs : List Statement) → rows_before rs Stop ≡ text_of rs
 before_stop [] = refl
 before_stop (r ∷ rs) = ap (with_row r) (before_stop rs)
 
-before_last : (rs : List Row) (r : Row) (t : Text) → rows_before (rs ++ r ∷ []) t ≡ rows_before rs (with_row r t)
+before_last : (rs : List Statement) (r : Statement) (t : Text) → rows_before (rs ++ r ∷ []) t ≡ rows_before rs (with_row r t)
 before_last [] r t = refl
 before_last (q ∷ rs) r t = ap (with_row q) (before_last rs r t)
 
-texts_last : (ss : List Step) (xs : List Text) (s : Step) → texts_from xs (ss ++ s ∷ []) ≡ texts_from xs ss ++ with_row (row_in s.stmt) (text_in (texts_from xs ss) s.next) ∷ []
+texts_last : (ss : List Step) (xs : List Text) (s : Step) → texts_from xs (ss ++ s ∷ []) ≡ texts_from xs ss ++ with_row (shown_statement s.stmt) (text_in (texts_from xs ss) s.next) ∷ []
 texts_last [] xs s = refl
-texts_last (r ∷ ss) xs s = texts_last ss (xs ++ with_row (row_in r.stmt) (text_in xs r.next) ∷ []) s
+texts_last (r ∷ ss) xs s = texts_last ss (xs ++ with_row (shown_statement r.stmt) (text_in xs r.next) ∷ []) s
 
-text_pushed : (ss : List Step) (s : Step) → text_at (ss ++ s ∷ []) (suc (length ss)) ≡ with_row (row_in s.stmt) (text_at ss s.next)
+text_pushed : (ss : List Step) (s : Step) → text_at (ss ++ s ∷ []) (suc (length ss)) ≡ with_row (shown_statement s.stmt) (text_at ss s.next)
 unfolding text_at
 text_pushed ss s =
     let ts = texts_from [] ss in
@@ -63,16 +63,16 @@ FitsSoFar all rest before now = (locals : ℕ) → (ks : List Kind) → steps_fi
     → (steps_fit locals ks 0 now ≡ true) × (list_all (stmt_fits locals ks) rest ≡ true)
 
 pub linked_text : (all rest : List Stmt) (s : Stmt) (ss now : List Step) (next place : ℕ) → all ≡ rest ++ s ∷ [] → now ≡ ss ++ record { stmt = s; next = next } ∷ [] → place ≡ length now
-    → rows_before (map row_in rest) (text_at now place) ≡ rows_before (map row_in all) (text_at ss next)
+    → rows_before (map shown_statement rest) (text_at now place) ≡ rows_before (map shown_statement all) (text_at ss next)
 linked_text all rest s ss now next place e f g =
     let step : Step = record { stmt = s; next = next } in
     let more : List Step = ss ++ step ∷ [] in
     let long : length more ≡ suc (length ss) = length-append ss (step ∷ []) ∙ omega arith in
-    let text : text_at now place ≡ with_row (row_in s) (text_at ss next) =
+    let text : text_at now place ≡ with_row (shown_statement s) (text_at ss next) =
     ap (text_at now) g ∙ (ap (λ (zs : List Step). text_at zs (length zs)) f ∙ (ap (text_at more) long ∙ text_pushed ss step)) in
-    ap (rows_before (map row_in rest)) text
-    ∙ sym (ap (λ (zs : List Stmt). rows_before (map row_in zs) (text_at ss next)) e
-    ∙ (ap (λ (rs : List Row). rows_before rs (text_at ss next)) (map-append row_in rest (s ∷ [])) ∙ before_last (map row_in rest) (row_in s) (text_at ss next)))
+    ap (rows_before (map shown_statement rest)) text
+    ∙ sym (ap (λ (zs : List Stmt). rows_before (map shown_statement zs) (text_at ss next)) e
+    ∙ (ap (λ (rs : List Statement). rows_before rs (text_at ss next)) (map-append shown_statement rest (s ∷ [])) ∙ before_last (map shown_statement rest) (shown_statement s) (text_at ss next)))
 
 pub linked_long : (ss now : List Step) (s : Step) → now ≡ ss ++ s ∷ [] → length now ≡ length ss + 1
 linked_long ss now s f = ap (λ (zs : List Step). length zs) f ∙ length-append ss (s ∷ [])

@@ -4,14 +4,14 @@ use Rattle.std.proofs.lemmas.List.{append-nil}
 use Rattle.ax_text.specs.declared.vocabulary.Atom.{Atom}
 use Rattle.ax_text.specs.Exprs.{Leaf}
 use Rattle.ax_expr.specs.declared.tree.Expr.TheVariants as v
-use Rattle.ax_expr.specs.Seen.{seen}
-use Rattle.ax_expr.proofs.SeenLemmas.{seen_leaf}
-use Rattle.ax_lang.specs.Rows.{Row, HandlerRows, no_rows, rows_at, joined}
+use Rattle.ax_expr.specs.Shown.{shown_expr}
+use Rattle.ax_expr.proofs.ShownLemmas.{shown_leaf}
+use Rattle.ax_lang.specs.Rows.{Statement, HandlerRows, no_rows, rows_at, joined}
 
-pub leaf_seen : (a : Atom) → seen (v.Leaf a) ≡ Leaf a
-leaf_seen a = seen_leaf a
+pub leaf_shown : (a : Atom) → shown_expr (v.Leaf a) ≡ Leaf a
+leaf_shown a = shown_leaf a
 
-abbrev pub both : List Row → List Row → HandlerRows
+abbrev pub both : List Statement → List Statement → HandlerRows
 both row timer = record { row = row; timer = timer }
 
 pub joined_none : (a : HandlerRows) → joined a no_rows ≡ a

@@ -17,9 +17,9 @@ use Rattle.ax_syntax.specs.Shapes.{Shape}
 use Rattle.ax_syntax.specs.Shapes as shape
 use Rattle.ax_lang.specs.declared.tables.Tables.{Tables}
 use Rattle.ax_lang.specs.Tables.{mem, state_names, is_state, is_new_local, is_statement, is_built, may_stand, is_too_many, has_long_expr, is_twice, has_unknown, has_wrong_kind, fault_by, with_word, most_locals, begun, after, start}
-use Rattle.ax_lang.specs.Rows.{Row, ActRow, AskRow, HandlerRows, no_rows, rows_at, joined, rows_by, index_of, place_or, place_in, row_of}
+use Rattle.ax_lang.specs.Rows.{Statement, Acts, Asks, HandlerRows, no_rows, rows_at, joined, rows_by, index_of, place_or, place_in, row_of}
 use Rattle.ax_lang.specs.Programs.{fault_in, after_in, rows_in}
-use Rattle.ax_lang.specs.Steps.{row_in, stmt_fits}
+use Rattle.ax_lang.specs.Steps.{shown_statement, stmt_fits}
 use Rattle.ax_lang.specs.declared.step.Stmt.{Stmt}
 use Rattle.ax_lang.specs.declared.step.Stmt.TheVariants as code
 use Rattle.ax_lang.proofs.RowLemmas.{none_added}
@@ -116,29 +116,29 @@ declared_fits ds w h =
     let b : length (kinds ds) ≡ length ds = length-map ds (λ (d : Decl). d.kind) in
     and_from (nat_lt (place_in (state_names ds) w) (length (kinds ds))) _ (lt-ltb (place_in (state_names ds) w) (length (kinds ds)) (omega arith)) (same_value _)
 
-row_fits_more : (n m : ℕ) (ks : List Kind) (r : Row) → n ≤ m → row_fits n ks r ≡ true → row_fits m ks r ≡ true
-row_fits_more n m ks (ActRow q) h f = refl
-row_fits_more n m ks (AskRow (text.Get name state e)) h f =
+row_fits_more : (n m : ℕ) (ks : List Kind) (r : Statement) → n ≤ m → row_fits n ks r ≡ true → row_fits m ks r ≡ true
+row_fits_more n m ks (Acts q) h f = refl
+row_fits_more n m ks (Asks (text.Get name state e)) h f =
     let a = and_parts (nat_lt name n) (has_kind ks state kind.Value) f in
     let low : name < n = ltb-true name n a.0 in
     and_from (nat_lt name m) (has_kind ks state kind.Value) (lt-ltb name m (omega arith)) a.1
-row_fits_more n m ks (AskRow (text.Put state e)) h f = f
+row_fits_more n m ks (Asks (text.Put state e)) h f = f
 
-rows_fit_more : (n m : ℕ) (ks : List Kind) (rows : List Row) → n ≤ m → list_all (row_fits n ks) rows ≡ true → list_all (row_fits m ks) rows ≡ true
+rows_fit_more : (n m : ℕ) (ks : List Kind) (rows : List Statement) → n ≤ m → list_all (row_fits n ks) rows ≡ true → list_all (row_fits m ks) rows ≡ true
 rows_fit_more n m ks [] h f = refl
 rows_fit_more n m ks (r ∷ rs) h f =
     let a = and_parts (row_fits n ks r) (list_all (row_fits n ks) rs) f in
     and_from (row_fits m ks r) (list_all (row_fits m ks) rs) (row_fits_more n m ks r h a.0) (rows_fit_more n m ks rs h a.1)
 
-all_with : (p : Row → Bool) (rows : List Row) (r : Row) → list_all p rows ≡ true → p r ≡ true → list_all p (rows ++ r ∷ []) ≡ true
+all_with : (p : Statement → Bool) (rows : List Statement) (r : Statement) → list_all p rows ≡ true → p r ≡ true → list_all p (rows ++ r ∷ []) ≡ true
 all_with p rows r h g = list_all-append p rows (r ∷ []) ∙ and_from (list_all p rows) (list_all p (r ∷ [])) h (and_from (p r) true g refl)
 
 -- a row more in its handler
-row_added : (p : Row → Bool) (timer : Bool) (rows : List Row) (r : Row) → list_all p rows ≡ true → p r ≡ true → list_all p (rows ++ (rows_at timer (r ∷ [])).row) ≡ true
+row_added : (p : Statement → Bool) (timer : Bool) (rows : List Statement) (r : Statement) → list_all p rows ≡ true → p r ≡ true → list_all p (rows ++ (rows_at timer (r ∷ [])).row) ≡ true
 row_added p true rows r h g = ap (list_all p) (append-nil rows) ∙ h
 row_added p false rows r h g = all_with p rows r h g
 
-timer_added : (p : Row → Bool) (timer : Bool) (rows : List Row) (r : Row) → list_all p rows ≡ true → p r ≡ true → list_all p (rows ++ (rows_at timer (r ∷ [])).timer) ≡ true
+timer_added : (p : Statement → Bool) (timer : Bool) (rows : List Statement) (r : Statement) → list_all p rows ≡ true → p r ≡ true → list_all p (rows ++ (rows_at timer (r ∷ [])).timer) ≡ true
 timer_added p true rows r h g = all_with p rows r h g
 timer_added p false rows r h g = ap (list_all p) (append-nil rows) ∙ h
 
@@ -169,7 +169,7 @@ sound_state t rows name kind h f =
     }
 
 -- a handler has begun
-begun_fits : (t : Tables) (rows : List Row) → list_all (row_fits (most_locals t) (kinds t.states)) rows ≡ true → list_all (row_fits (most_locals (begun t)) (kinds t.states)) rows ≡ true
+begun_fits : (t : Tables) (rows : List Statement) → list_all (row_fits (most_locals t) (kinds t.states)) rows ≡ true → list_all (row_fits (most_locals (begun t)) (kinds t.states)) rows ≡ true
 unfolding most_locals
 begun_fits t rows h = let n : ℕ = max t.earlier (length t.locals) in rows_fit_more n (max n 0) (kinds t.states) rows (omega arith) h
 
@@ -208,7 +208,7 @@ unfolding after most_locals
 sound_end t rows h = record { fields = h.fields; states = h.states; locals = h.locals; inside = λ q. absurd (false≢true q); before = h.before; row = h.row; timer = h.timer }
 
 -- a statement adds a row
-sound_more : (t : Tables) (rows : HandlerRows) (names : List Word) (n : ℕ) (r : Row) → Sound t rows → t.inside ≡ true → length t.locals ≤ length names → length names ≤ 256
+sound_more : (t : Tables) (rows : HandlerRows) (names : List Word) (n : ℕ) (r : Statement) → Sound t rows → t.inside ≡ true → length t.locals ≤ length names → length names ≤ 256
     → row_fits (max t.earlier (length names)) (kinds t.states) r ≡ true → Sound (record t { locals = names; statements = n }) (joined rows (rows_at t.timer (r ∷ [])))
 unfolding most_locals
 sound_more t rows names n r h inside low few fit =
@@ -360,7 +360,7 @@ pub sound_start : Sound start no_rows
 unfolding start most_locals
 sound_start = record { fields = tt; states = omega arith; locals = omega arith; inside = λ q. absurd (false≢true q); before = λ q. refl; row = refl; timer = refl }
 
-row_fits_in : (n : ℕ) (ks : List Kind) (stmt : Stmt) → stmt_fits n ks stmt ≡ row_fits n ks (row_in stmt)
+row_fits_in : (n : ℕ) (ks : List Kind) (stmt : Stmt) → stmt_fits n ks stmt ≡ row_fits n ks (shown_statement stmt)
 row_fits_in n ks (code.Get name state missing) = refl
 row_fits_in n ks (code.Put state number) = refl
 row_fits_in n ks (code.Emit values) = refl
@@ -368,10 +368,10 @@ row_fits_in n ks (code.SetTimer time) = refl
 row_fits_in n ks (code.UnsetTimer time) = refl
 
 -- the statements fit where their rows do
-pub stmts_fit : (n : ℕ) (ks : List Kind) (stmts : List Stmt) → list_all (row_fits n ks) (map row_in stmts) ≡ true → list_all (stmt_fits n ks) stmts ≡ true
+pub stmts_fit : (n : ℕ) (ks : List Kind) (stmts : List Stmt) → list_all (row_fits n ks) (map shown_statement stmts) ≡ true → list_all (stmt_fits n ks) stmts ≡ true
 stmts_fit n ks [] h = refl
 stmts_fit n ks (s ∷ ss) h =
-    let a = and_parts (row_fits n ks (row_in s)) (list_all (row_fits n ks) (map row_in ss)) h in
+    let a = and_parts (row_fits n ks (shown_statement s)) (list_all (row_fits n ks) (map shown_statement ss)) h in
     and_from (stmt_fits n ks s) (list_all (stmt_fits n ks) ss) (row_fits_in n ks s ∙ a.0) (stmts_fit n ks ss a.1)
 
 -- a line without fault, by its shape where it has one

@@ -5,14 +5,14 @@ use Rattle.ax_text.specs.declared.vocabulary.Kind.{Kind}
 use Rattle.ax_text.specs.Texts.{Text, Stop, Act, Ask}
 use Rattle.ax_text.specs.Programs.{width, width_some, kinds_of}
 use Rattle.ax_state.specs.declared.decls.Decl.{Decl}
-use Rattle.ax_state.specs.Decls.{kinds, states_of}
+use Rattle.ax_state.specs.Decls.{kinds, shown_states}
 use Rattle.ax_lang.specs.declared.step.Step.{Step}
 use Rattle.ax_lang.specs.Rows.{with_row}
-use Rattle.ax_lang.specs.Steps.{row_in, text_in, texts_from, stmt_fits, steps_fit}
+use Rattle.ax_lang.specs.Steps.{shown_statement, text_in, texts_from, stmt_fits, steps_fit}
 
-pub kinds_shown : (ds : List Decl) → kinds ds ≡ kinds_of (states_of ds)
-kinds_shown [] = refl
-kinds_shown (d ∷ ds) = ap (λ (ks : List Kind). d.kind ∷ ks) (kinds_shown ds)
+pub program_kinds : (ds : List Decl) → kinds ds ≡ kinds_of (shown_states ds)
+program_kinds [] = refl
+program_kinds (d ∷ ds) = ap (λ (ks : List Kind). d.kind ∷ ks) (program_kinds ds)
 
 width_low : (t : Text) → width t ≤ 1
 width_low Stop = omega arith
@@ -44,7 +44,7 @@ text_last (y ∷ xs) x = text_last xs x
 texts_stay : (ss : List Step) (xs : List Text) (p : ℕ) → p ≤ length xs → text_in (texts_from xs ss) p ≡ text_in xs p
 texts_stay [] xs p h = refl
 texts_stay (s ∷ ss) xs p h =
-    let x = with_row (row_in s.stmt) (text_in xs s.next) in
+    let x = with_row (shown_statement s.stmt) (text_in xs s.next) in
     let e : length (xs ++ x ∷ []) ≡ length xs + 1 = length-append xs (x ∷ []) in
     texts_stay ss (xs ++ x ∷ []) p (omega arith) ∙ text_more xs (x ∷ []) p h
 
@@ -57,21 +57,21 @@ fits_here locals n ks s ss h =
 
 -- a step's text is its row before the text of the place that it leads to
 pub step_stands : (ss : List Step) (xs : List Text) (locals n : ℕ) (ks : List Kind) (i q : ℕ) (d : Step) → n ≡ length xs → q ≡ n + i → steps_fit locals ks n ss ≡ true → i < length ss
-    → (text_in (texts_from xs ss) (suc q) ≡ with_row (row_in (get_or ss i d).stmt) (text_in (texts_from xs ss) (get_or ss i d).next)) × ((get_or ss i d).next ≤ q) × (stmt_fits locals ks (get_or ss i d).stmt ≡ true)
+    → (text_in (texts_from xs ss) (suc q) ≡ with_row (shown_statement (get_or ss i d).stmt) (text_in (texts_from xs ss) (get_or ss i d).next)) × ((get_or ss i d).next ≤ q) × (stmt_fits locals ks (get_or ss i d).stmt ≡ true)
 step_stands [] xs locals n ks i q d m w f h = absurd (omega arith)
 step_stands (s ∷ ss) xs locals n ks zero q d m w f h =
-    let x : Text = with_row (row_in s.stmt) (text_in xs s.next) in
+    let x : Text = with_row (shown_statement s.stmt) (text_in xs s.next) in
     let ys : List Text = xs ++ x ∷ [] in
     let e : length ys ≡ length xs + 1 = length-append xs (x ∷ []) in
     let g = fits_here locals n ks s ss f in
     let low : s.next ≤ n = g.0 in
     let here : suc q ≡ suc (length xs) = omega arith in (
-      ap (λ (p : ℕ). text_in (texts_from ys ss) p) here ∙ (texts_stay ss ys (suc (length xs)) (omega arith) ∙ (text_last xs x ∙ ap (with_row (row_in s.stmt)) (sym (texts_stay ss ys s.next (omega arith) ∙ text_more xs (x ∷ []) s.next (omega arith))))),
+      ap (λ (p : ℕ). text_in (texts_from ys ss) p) here ∙ (texts_stay ss ys (suc (length xs)) (omega arith) ∙ (text_last xs x ∙ ap (with_row (shown_statement s.stmt)) (sym (texts_stay ss ys s.next (omega arith) ∙ text_more xs (x ∷ []) s.next (omega arith))))),
       omega arith,
       g.1,
     )
 step_stands (s ∷ ss) xs locals n ks (suc i) q d m w f h =
-    let x : Text = with_row (row_in s.stmt) (text_in xs s.next) in
+    let x : Text = with_row (shown_statement s.stmt) (text_in xs s.next) in
     let ys : List Text = xs ++ x ∷ [] in
     let e : length ys ≡ length xs + 1 = length-append xs (x ∷ []) in
     let g = fits_here locals n ks s ss f in
@@ -86,6 +86,6 @@ nothing_past (t ∷ ts) (suc i) h = nothing_past ts i (omega arith)
 pub texts_length : (ss : List Step) (xs : List Text) → length (texts_from xs ss) ≡ length xs + length ss
 texts_length [] xs = omega arith
 texts_length (s ∷ ss) xs =
-    let x : Text = with_row (row_in s.stmt) (text_in xs s.next) in
+    let x : Text = with_row (shown_statement s.stmt) (text_in xs s.next) in
     let e : length (xs ++ x ∷ []) ≡ length xs + 1 = length-append xs (x ∷ []) in
     texts_length ss (xs ++ x ∷ []) ∙ omega arith

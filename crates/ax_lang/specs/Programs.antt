@@ -3,7 +3,7 @@ use Rattle.std.specs.Prelude.{◌≡◌, ℕ, List, [], ◌∷◌, ◌++◌, Boo
 use Rattle.ax_base.specs.declared.lines.Line.{Line}
 use Rattle.ax_base.specs.Words.{words_of}
 use Rattle.ax_text.specs.Programs.{Program}
-use Rattle.ax_state.specs.Decls.{states_of}
+use Rattle.ax_state.specs.Decls.{shown_states}
 use Rattle.ax_syntax.specs.Shapes.{Shape, shape_of}
 use Rattle.ax_lang.specs.declared.tables.Tables.{Tables}
 use Rattle.ax_lang.specs.declared.program.Program.{Program as CodeProgram}
@@ -12,7 +12,7 @@ use Rattle.ax_lang.specs.declared.reader.ProgFault.{ProgFault}
 use Rattle.ax_lang.specs.declared.reader.ProgFault.TheVariants as fault
 use Rattle.ax_lang.specs.Tables.{fault_by, after, start}
 use Rattle.ax_lang.specs.Rows.{HandlerRows, no_rows, joined, rows_by, text_of, text_if}
-use Rattle.ax_lang.specs.Shown.{shown}
+use Rattle.ax_lang.specs.Shown.{shown_program}
 
 abbrev pub shape_in : Line → Option Shape
 shape_in l = shape_of (words_of l.text)
@@ -63,7 +63,7 @@ unfoldable pub is_whole : Tables → Bool
 is_whole t = (is_some t.fields && t.row) && not t.inside
 
 unfoldable pub program_in : Tables → HandlerRows → Program
-program_in t rows = record { fields = fields_or t.fields; states = states_of t.states; row = text_of rows.row; timer = text_if t.timer rows.timer }
+program_in t rows = record { fields = fields_or t.fields; states = shown_states t.states; row = text_of rows.row; timer = text_if t.timer rows.timer }
 
 unfoldable pub ended : Tables → HandlerRows → SectionEnd → Reading
 ended t rows end = if is_whole t && end.found then Accepted (program_in t rows) else Faulty end.line 10
@@ -85,7 +85,7 @@ TakesLine l t t' rows rows' (Err fault.NoMemory) = Unit {0}
 
 abbrev pub IsProgram : Reading → CodeProgram → Type 0
 IsProgram (Faulty line kind) p = ⊥
-IsProgram (Accepted program) p = shown p ≡ program
+IsProgram (Accepted program) p = shown_program p ≡ program
 
 -- what a reader of programs answers
 abbrev pub ReadsProgram : Reading → Result CodeProgram ProgFault → Type 0

@@ -12,26 +12,26 @@ use Rattle.ax_syntax.specs.declared.words.Keyword.{Keyword}
 use Rattle.ax_syntax.specs.declared.words.Keyword.TheVariants as k
 use Rattle.ax_syntax.specs.Words.{Word, same_word, keyword_of, field_number, sign_of}
 use Rattle.ax_syntax.specs.Shapes.{Shape, Get, Put, Emit, Timer, Untimer, parts_of}
-use Rattle.ax_expr.specs.declared.tree.Mark.{Mark}
-use Rattle.ax_expr.specs.declared.tree.Mark.TheVariants as mark
+use Rattle.ax_expr.specs.declared.tree.Token.{Token}
+use Rattle.ax_expr.specs.declared.tree.Token.TheVariants as token
 use Rattle.ax_expr.specs.Reading.{tree_of}
 use Rattle.ax_lang.specs.declared.tables.Tables.{Tables}
 use Rattle.ax_lang.specs.Tables.{state_names}
 
-pub data Row : Type 0 where
-  ActRow : (quiet : Quiet) → Row
-  AskRow : (asking : Asking) → Row
+pub data Statement : Type 0 where
+  Acts : (quiet : Quiet) → Statement
+  Asks : (asking : Asking) → Statement
 
 -- the rows of the two handlers
 pub record HandlerRows : Type 0 where
-  pub row : List Row
-  pub timer : List Row
+  pub row : List Statement
+  pub timer : List Statement
 
 abbrev pub no_rows : HandlerRows
 no_rows = record { row = []; timer = [] }
 
 -- the rows of one handler: of `on timer`, or of `on row`
-abbrev pub rows_at : Bool → List Row → HandlerRows
+abbrev pub rows_at : Bool → List Statement → HandlerRows
 rows_at true rows = record { row = []; timer = rows }
 rows_at false rows = record { row = rows; timer = [] }
 
@@ -39,7 +39,7 @@ rows_at false rows = record { row = rows; timer = [] }
 abbrev pub joined : HandlerRows → HandlerRows → HandlerRows
 joined a b = record { row = a.row ++ b.row; timer = a.timer ++ b.timer }
 
-abbrev pub row_list : Option Row → List Row
+abbrev pub row_list : Option Statement → List Statement
 row_list None = []
 row_list (Some r) = r ∷ []
 
@@ -72,16 +72,16 @@ field_or (Some n) a = atom.Field (n - 1)
 abbrev pub atom_of : List Word → Word → Atom
 atom_of locals w = number_or (number_of w) (moment_or (keyword_of w) (field_or (field_number w) (atom.Name (place_in locals w))))
 
-abbrev pub sign_or : Option Op → Mark → Mark
+abbrev pub sign_or : Option Op → Token → Token
 sign_or None m = m
-sign_or (Some o) m = mark.Sign o
+sign_or (Some o) m = token.Sign o
 
 -- what a word is in an expression
-unfoldable pub mark_of : List Word → Word → Mark
-mark_of locals w =
-    if same_word w (codes "(") then mark.Open else
-    if same_word w (codes ")") then mark.Close else
-    sign_or (sign_of w) (mark.Operand (atom_of locals w))
+unfoldable pub token_of : List Word → Word → Token
+token_of locals w =
+    if same_word w (codes "(") then token.Open else
+    if same_word w (codes ")") then token.Close else
+    sign_or (sign_of w) (token.Operand (atom_of locals w))
 
 abbrev pub tree_or : Option Expr → Expr
 tree_or None = Leaf atom.Time
@@ -89,15 +89,15 @@ tree_or (Some t) = t
 
 -- the expression of these words
 unfoldable pub tree_in : List Word → List Word → Expr
-tree_in locals ws = tree_or (tree_of (map (mark_of locals) ws))
+tree_in locals ws = tree_or (tree_of (map (token_of locals) ws))
 
 -- the row of a line, where the tables are those behind it
-unfoldable pub row_of : Tables → Shape → Option Row
-row_of t (Get name state missing) = Some (AskRow (text.Get (place_in t.locals name) (place_in (state_names t.states) state) (tree_in t.locals missing)))
-row_of t (Put state values) = Some (AskRow (text.Put (place_in (state_names t.states) state) (tree_in t.locals values)))
-row_of t (Emit values) = Some (ActRow (text.Emit (map (tree_in t.locals) (parts_of values))))
-row_of t (Timer time) = Some (ActRow (text.Timer (tree_in t.locals time)))
-row_of t (Untimer time) = Some (ActRow (text.Untimer (tree_in t.locals time)))
+unfoldable pub row_of : Tables → Shape → Option Statement
+row_of t (Get name state missing) = Some (Asks (text.Get (place_in t.locals name) (place_in (state_names t.states) state) (tree_in t.locals missing)))
+row_of t (Put state values) = Some (Asks (text.Put (place_in (state_names t.states) state) (tree_in t.locals values)))
+row_of t (Emit values) = Some (Acts (text.Emit (map (tree_in t.locals) (parts_of values))))
+row_of t (Timer time) = Some (Acts (text.Timer (tree_in t.locals time)))
+row_of t (Untimer time) = Some (Acts (text.Untimer (tree_in t.locals time)))
 row_of t _ = None
 
 -- the row of a line, in its handler
@@ -105,15 +105,15 @@ abbrev pub rows_by : Tables → Shape → HandlerRows
 rows_by t s = rows_at t.timer (row_list (row_of t s))
 
 -- a row stands before a text
-abbrev pub with_row : Row → Text → Text
-with_row (ActRow q) rest = Act q rest
-with_row (AskRow a) rest = Ask a rest
+abbrev pub with_row : Statement → Text → Text
+with_row (Acts q) rest = Act q rest
+with_row (Asks a) rest = Ask a rest
 
-abbrev pub text_of : List Row → Text
+abbrev pub text_of : List Statement → Text
 text_of [] = Stop
 text_of (r ∷ rs) = with_row r (text_of rs)
 
 -- the text of a handler that may be missing
-abbrev pub text_if : Bool → List Row → Option Text
+abbrev pub text_if : Bool → List Statement → Option Text
 text_if true rows = Some (text_of rows)
 text_if false rows = None

@@ -3,23 +3,23 @@ use Rattle.std.specs.Prelude.{◌≡◌, ℕ, ◌<◌, List, true, Option, Some,
 use Rattle.ax_text.specs.declared.vocabulary.Kind.{Kind}
 use Rattle.ax_text.specs.Texts.{Text, Stop}
 use Rattle.ax_text.specs.Programs.{Program, kinds_of}
-use Rattle.ax_state.specs.Decls.{states_of}
+use Rattle.ax_state.specs.Decls.{shown_states}
 use Rattle.ax_lang.specs.declared.step.Step.{Step}
 use Rattle.ax_lang.specs.declared.program.Program.{Program as CodeProgram}
 use Rattle.ax_lang.specs.Rows.{with_row}
-use Rattle.ax_lang.specs.Steps.{row_in, text_at, text_some, stmt_fits}
+use Rattle.ax_lang.specs.Steps.{shown_statement, text_at, text_some, stmt_fits}
 
 -- the text from a place of a program on
 unfoldable pub text_from : CodeProgram → ℕ → Text
 text_from p place = text_at p.steps.items place
 
 -- the program that the code holds
-unfoldable pub shown : CodeProgram → Program
-shown p = record { fields = p.fields; states = states_of p.decls; row = text_at p.steps.items p.row; timer = text_some p.steps.items p.timer }
+unfoldable pub shown_program : CodeProgram → Program
+shown_program p = record { fields = p.fields; states = shown_states p.decls; row = text_at p.steps.items p.row; timer = text_some p.steps.items p.timer }
 
 -- the kinds of the declared states
-abbrev pub kinds_in : CodeProgram → List Kind
-kinds_in p = kinds_of (shown p).states
+abbrev pub shown_kinds : CodeProgram → List Kind
+shown_kinds p = kinds_of (shown_program p).states
 
 -- how many local names a handler has at most
 unfoldable pub locals_of : CodeProgram → ℕ
@@ -28,4 +28,4 @@ locals_of p = p.locals
 -- what stands at a place: nothing, or a statement that fits and leads to a lower place
 abbrev pub StandsAt : CodeProgram → ℕ → Option Step → Type 0
 StandsAt p place None = text_from p place ≡ Stop
-StandsAt p place (Some s) = (text_from p place ≡ with_row (row_in s.stmt) (text_from p s.next)) × (s.next < place) × (stmt_fits (locals_of p) (kinds_in p) s.stmt ≡ true)
+StandsAt p place (Some s) = (text_from p place ≡ with_row (shown_statement s.stmt) (text_from p s.next)) × (s.next < place) × (stmt_fits (locals_of p) (shown_kinds p) s.stmt ≡ true)

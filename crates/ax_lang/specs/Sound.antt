@@ -9,7 +9,7 @@ use Rattle.ax_state.specs.Fits.{has_kind}
 use Rattle.ax_syntax.specs.Shapes.{Shape, Input}
 use Rattle.ax_lang.specs.declared.tables.Tables.{Tables}
 use Rattle.ax_lang.specs.Tables.{most_locals}
-use Rattle.ax_lang.specs.Rows.{Row, ActRow, AskRow, HandlerRows, no_rows}
+use Rattle.ax_lang.specs.Rows.{Statement, Acts, Asks, HandlerRows, no_rows}
 
 abbrev pub UpToSixteen : Option ℕ → Type 0
 UpToSixteen None = Unit {0}
@@ -21,10 +21,10 @@ SmallInput (Some (Input n)) = n ≤ 16
 SmallInput _ = Unit {0}
 
 -- a row's local name and state exist, and the state has the statement's kind
-abbrev pub row_fits : ℕ → List Kind → Row → Bool
-row_fits locals kinds (ActRow q) = true
-row_fits locals kinds (AskRow (text.Get name state missing)) = nat_lt name locals && has_kind kinds state kind.Value
-row_fits locals kinds (AskRow (text.Put state number)) = has_kind kinds state kind.Value
+abbrev pub row_fits : ℕ → List Kind → Statement → Bool
+row_fits locals kinds (Acts q) = true
+row_fits locals kinds (Asks (text.Get name state missing)) = nat_lt name locals && has_kind kinds state kind.Value
+row_fits locals kinds (Asks (text.Put state number)) = has_kind kinds state kind.Value
 
 abbrev pub Sound : Tables → HandlerRows → Type 0
 Sound t rows = record {

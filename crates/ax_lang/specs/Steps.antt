@@ -6,27 +6,27 @@ use Rattle.ax_text.specs.declared.vocabulary.Kind.TheVariants as kind
 use Rattle.ax_text.specs.Texts.{Text, Stop}
 use Rattle.ax_text.specs.Texts as text
 use Rattle.ax_state.specs.Fits.{has_kind}
-use Rattle.ax_expr.specs.Seen.{seen}
+use Rattle.ax_expr.specs.Shown.{shown_expr}
 use Rattle.ax_lang.specs.declared.step.Stmt.{Stmt}
 use Rattle.ax_lang.specs.declared.step.Stmt.TheVariants as code
 use Rattle.ax_lang.specs.declared.step.Step.{Step}
 use Rattle.ax_lang.specs.declared.step.Handlers.{Handlers}
-use Rattle.ax_lang.specs.Rows.{Row, ActRow, AskRow, HandlerRows, with_row}
+use Rattle.ax_lang.specs.Rows.{Statement, Acts, Asks, HandlerRows, with_row}
 
-abbrev pub row_in : Stmt → Row
-row_in (code.Get name state missing) = AskRow (text.Get name state (seen missing))
-row_in (code.Put state number) = AskRow (text.Put state (seen number))
-row_in (code.Emit values) = ActRow (text.Emit (map seen values))
-row_in (code.SetTimer time) = ActRow (text.Timer (seen time))
-row_in (code.UnsetTimer time) = ActRow (text.Untimer (seen time))
+abbrev pub shown_statement : Stmt → Statement
+shown_statement (code.Get name state missing) = Asks (text.Get name state (shown_expr missing))
+shown_statement (code.Put state number) = Asks (text.Put state (shown_expr number))
+shown_statement (code.Emit values) = Acts (text.Emit (map shown_expr values))
+shown_statement (code.SetTimer time) = Acts (text.Timer (shown_expr time))
+shown_statement (code.UnsetTimer time) = Acts (text.Untimer (shown_expr time))
 
 -- the rows of the handlers' statements
-abbrev pub rows_shown : Handlers → HandlerRows
-rows_shown h = record { row = map row_in h.row.items; timer = map row_in h.timer.items }
+abbrev pub shown_handlers : Handlers → HandlerRows
+shown_handlers h = record { row = map shown_statement h.row.items; timer = map shown_statement h.timer.items }
 
-abbrev pub row_some : Option Stmt → Option Row
+abbrev pub row_some : Option Stmt → Option Statement
 row_some None = None
-row_some (Some stmt) = Some (row_in stmt)
+row_some (Some stmt) = Some (shown_statement stmt)
 
 abbrev pub text_in : List Text → ℕ → Text
 text_in texts zero = Stop
@@ -35,7 +35,7 @@ text_in texts (suc i) = slice_index_or texts i Stop
 -- the texts of all places, from the lowest on; each step leads to a lower place
 abbrev pub texts_from : List Text → List Step → List Text
 texts_from texts [] = texts
-texts_from texts (s ∷ ss) = texts_from (texts ++ with_row (row_in s.stmt) (text_in texts s.next) ∷ []) ss
+texts_from texts (s ∷ ss) = texts_from (texts ++ with_row (shown_statement s.stmt) (text_in texts s.next) ∷ []) ss
 
 unfoldable pub text_at : List Step → ℕ → Text
 text_at steps place = text_in (texts_from [] steps) place

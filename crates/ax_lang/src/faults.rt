@@ -3,7 +3,7 @@ ghost use Rattle.std.specs.Prelude.{◌≡◌, length, not, ◌&&◌, ◌||◌, 
 ghost use Rattle.std.specs.List.{list_any, list_all};
 ghost use Rattle.std.specs.Option.{option_copied};
 ghost use Rattle.ax_syntax.specs.Words.{sign_of};
-ghost use Rattle.ax_syntax.specs.Shapes.{seen, parts_of};
+ghost use Rattle.ax_syntax.specs.Shapes.{shown_shape, parts_of};
 ghost use Rattle.ax_lang.specs.Tables.{is_state, is_local, some_is, is_built_sign, is_built_word, is_built_kind, is_built, is_comma, may_stand, is_new_local, is_long, has_long_expr, has_too_many, is_too_many, is_twice, is_up_to, is_unknown_name, is_unknown_value, is_unknown, has_unknown, has_wrong_kind, fault_by};
 
 use crate::tables::{Tables, is_declared, is_statement, mem, reads_of, set_of, use_of};
@@ -47,7 +47,7 @@ fn is_built_kind(kind: KindWord) -> bool
 // Whether all is built that a line of this shape needs.
 #[tactic(auto, unfolding(crate::specs::Tables::is_built))]
 fn is_built(shape: &Shape) -> bool
-    ensures { result ≡ is_built (seen shape.now) }
+    ensures { result ≡ is_built (shown_shape shape.now) }
 {
     match shape {
         Shape::Input(_) => true,
@@ -175,7 +175,7 @@ impl Tables {
     // Where a line of this shape may stand.
     #[tactic(auto, unfolding(crate::specs::Tables::may_stand))]
     fn may_stand(&self, shape: &Shape) -> bool
-        ensures { result ≡ may_stand self.now (seen shape.now) }
+        ensures { result ≡ may_stand self.now (shown_shape shape.now) }
     {
         match shape {
             Shape::Input(_) => !self.inside,
@@ -189,7 +189,7 @@ impl Tables {
 
     #[tactic(auto, unfolding(crate::specs::Tables::is_too_many))]
     fn is_too_many(&self, shape: &Shape) -> bool
-        ensures { result ≡ is_too_many self.now (seen shape.now) }
+        ensures { result ≡ is_too_many self.now (shown_shape shape.now) }
     {
         match shape {
             Shape::State(..) => self.states.as_slice().len() >= 64,
@@ -199,7 +199,7 @@ impl Tables {
 
     // A 10,001st statement, a 257th local name, or an expression of more than 256 words.
     fn has_too_many(&self, shape: &Shape) -> bool
-        ensures { result ≡ has_too_many self.now (seen shape.now) }
+        ensures { result ≡ has_too_many self.now (shown_shape shape.now) }
     {
         (is_statement(shape) && self.statements >= 10000)
             || (self.assigns_new(set_of(shape)) && self.locals.as_slice().len() >= 256)
@@ -208,7 +208,7 @@ impl Tables {
 
     #[tactic(auto, unfolding(crate::specs::Tables::is_twice))]
     fn is_twice(&self, shape: &Shape) -> bool
-        ensures { result ≡ is_twice self.now (seen shape.now) }
+        ensures { result ≡ is_twice self.now (shown_shape shape.now) }
     {
         match shape {
             Shape::Input(_) => self.fields.is_some(),
@@ -221,14 +221,14 @@ impl Tables {
 
     #[tactic(auto, unfolding(crate::specs::Tables::has_unknown))]
     fn has_unknown(&self, shape: &Shape) -> bool
-        ensures { result ≡ has_unknown self.now (seen shape.now) }
+        ensures { result ≡ has_unknown self.now (shown_shape shape.now) }
     {
         self.any_unknown(reads_of(shape)) || self.uses_unknown(use_of(shape))
     }
 
     #[tactic(auto, unfolding(crate::specs::Tables::has_wrong_kind))]
     fn has_wrong_kind(&self, shape: &Shape) -> bool
-        ensures { result ≡ has_wrong_kind self.now (seen shape.now) }
+        ensures { result ≡ has_wrong_kind self.now (shown_shape shape.now) }
     {
         self.any_state(reads_of(shape))
             || self.assigns_state(set_of(shape))
@@ -238,7 +238,7 @@ impl Tables {
     /// The first kind of fault that a line of this shape has here.
     #[tactic(auto, unfolding(crate::specs::Tables::fault_by))]
     pub fn fault_by(&self, shape: &Shape) -> Option<u8>
-        ensures { result ≡ fault_by self.now (seen shape.now) }
+        ensures { result ≡ fault_by self.now (shown_shape shape.now) }
     {
         if !self.may_stand(shape) {
             Some(1)

@@ -4,7 +4,7 @@ ghost use Rattle.ax_syntax.specs.Words.{Word};
 ghost use Rattle.ax_lang.specs.Laws.{HasTree};
 
 /// Every expression that a line may have has a tree.
-#[tactic(auto, using(crate::proofs::MarkLemmas::has_tree))]
+#[tactic(auto, using(crate::proofs::TokenLemmas::has_tree))]
 pub fn expression_law()
     ensures { (locals words : List Word) → HasTree locals words }
 {}

@@ -3,9 +3,9 @@ ghost use Rattle.std.specs.Prelude.{◌≡◌, ◌≤◌, ◌++◌, ◌∷◌, [
 ghost use Rattle.std.specs.List.{list_all};
 ghost use Rattle.std.specs.Option.{option_copied};
 ghost use Rattle.ax_text.specs.Programs.{text_or_stop, program_width};
-ghost use Rattle.ax_state.specs.Decls.{kinds, states_of};
+ghost use Rattle.ax_state.specs.Decls.{kinds, shown_states};
 ghost use Rattle.ax_lang.specs.Rows.{text_of, text_if};
-ghost use Rattle.ax_lang.specs.Steps.{row_in, text_at, text_some, GoesOn, stmt_fits, steps_fit, FitsWith};
+ghost use Rattle.ax_lang.specs.Steps.{shown_statement, text_at, text_some, GoesOn, stmt_fits, steps_fit, FitsWith};
 
 use crate::step::{Handlers, Step, Stmt};
 use ax_base::NoMemory;
@@ -28,12 +28,12 @@ pub struct Program {
 }
 
 impl Program {
-    ghost use Rattle.ax_lang.specs.Shown.{shown, kinds_in, locals_of, text_from, StandsAt};
+    ghost use Rattle.ax_lang.specs.Shown.{shown_program, shown_kinds, locals_of, text_from, StandsAt};
 
     /// The program of these statements; those of `on timer` count where there is one.
     ///
     /// Conditions: at most 16 values, 64 states and 256 local names, and each statement's local name and state exist.
-    #[tactic(auto, unfolding(crate::specs::Shown::shown))]
+    #[tactic(auto, unfolding(crate::specs::Shown::shown_program))]
     pub fn new(
         alloc: Global,
         fields: u8,
@@ -47,7 +47,7 @@ impl Program {
         requires locals { locals ≤ 256 }
         requires row { list_all (stmt_fits locals (kinds decls)) handlers.row.items ≡ true }
         requires timer { list_all (stmt_fits locals (kinds decls)) handlers.timer.items ≡ true }
-        ensures { IfOk result (λ p. shown p ≡ record { fields = fields; states = states_of decls; row = text_of (map row_in handlers.row.items); timer = text_if has_timer (map row_in handlers.timer.items) }) }
+        ensures { IfOk result (λ p. shown_program p ≡ record { fields = fields; states = shown_states decls; row = text_of (map shown_statement handlers.row.items); timer = text_if has_timer (map shown_statement handlers.timer.items) }) }
     {
         let mut steps = Vec::new(alloc);
         let row = link(&mut steps, handlers.row)?;
@@ -63,36 +63,36 @@ impl Program {
     }
 
     /// How many values a row has, from 0 to 16.
-    #[tactic(auto, unfolding(crate::specs::Shown::shown))]
+    #[tactic(auto, unfolding(crate::specs::Shown::shown_program))]
     pub fn fields(&self) -> u8
-        ensures value { result ≡ (shown self.now).fields }
+        ensures value { result ≡ (shown_program self.now).fields }
         ensures small { result ≤ 16 }
     {
         self.fields
     }
 
     /// The declared states, in order, at most 64.
-    #[tactic(auto, unfolding(crate::specs::Shown::shown), using(crate::proofs::StepLemmas::kinds_shown))]
+    #[tactic(auto, unfolding(crate::specs::Shown::shown_program), using(crate::proofs::StepLemmas::program_kinds))]
     pub fn decls(&self) -> &Decls
-        ensures states { states_of result.now ≡ (shown self.now).states }
-        ensures kinds { kinds result.now ≡ kinds_in self.now }
+        ensures states { shown_states result.now ≡ (shown_program self.now).states }
+        ensures kinds { kinds result.now ≡ shown_kinds self.now }
         ensures few { length result.now ≤ 64 }
     {
         &self.decls
     }
 
     /// How many requests a handler may have out at once: 1, since its statements ask one after another.
-    #[tactic(auto, unfolding(crate::specs::Shown::shown), using(crate::proofs::StepLemmas::width_small))]
+    #[tactic(auto, unfolding(crate::specs::Shown::shown_program), using(crate::proofs::StepLemmas::width_small))]
     pub fn width(&self) -> u8
-        ensures { result ≡ program_width (shown self.now) }
+        ensures { result ≡ program_width (shown_program self.now) }
     {
         1
     }
 
     /// Whether there is an `on timer`.
-    #[tactic(auto, unfolding(crate::specs::Shown::shown))]
+    #[tactic(auto, unfolding(crate::specs::Shown::shown_program))]
     pub fn has_timer(&self) -> bool
-        ensures { result ≡ is_some (shown self.now).timer }
+        ensures { result ≡ is_some (shown_program self.now).timer }
     {
         self.timer.is_some()
     }
@@ -107,17 +107,17 @@ impl Program {
     }
 
     /// The place where `on row` begins.
-    #[tactic(auto, unfolding(crate::specs::Shown::shown, crate::specs::Shown::text_from))]
+    #[tactic(auto, unfolding(crate::specs::Shown::shown_program, crate::specs::Shown::text_from))]
     pub fn first(&self) -> usize
-        ensures { text_from self.now result ≡ (shown self.now).row }
+        ensures { text_from self.now result ≡ (shown_program self.now).row }
     {
         self.row
     }
 
     /// The place where `on timer` begins; the end, 0, where there is none.
-    #[tactic(auto, unfolding(crate::specs::Shown::shown, crate::specs::Shown::text_from, crate::specs::Steps::text_at))]
+    #[tactic(auto, unfolding(crate::specs::Shown::shown_program, crate::specs::Shown::text_from, crate::specs::Steps::text_at))]
     pub fn timer_first(&self) -> usize
-        ensures { text_from self.now result ≡ text_or_stop (shown self.now).timer }
+        ensures { text_from self.now result ≡ text_or_stop (shown_program self.now).timer }
     {
         match self.timer {
             None => 0,
@@ -149,7 +149,7 @@ fn push_step(steps: &mut Vec<Step>, stmt: Stmt, next: usize) -> Result<(), NoMem
 
 // Puts a handler's statements into the table, from the last one backwards, and gives the place where it begins.
 fn link(steps: &mut Vec<Step>, stmts: Vec<Stmt>) -> Result<usize, NoMemory>
-    ensures text { IfOk result (λ first. text_at steps.new.items first ≡ text_of (map row_in stmts.items)) }
+    ensures text { IfOk result (λ first. text_at steps.new.items first ≡ text_of (map shown_statement stmts.items)) }
     ensures place { IfOk result (λ first. first ≤ length steps.new.items) }
     ensures stays { OnOk result (GoesOn steps.old.items steps.new.items) }
     ensures fits { OnOk result (FitsWith stmts.items steps.old.items steps.new.items) }
@@ -165,7 +165,7 @@ fn link(steps: &mut Vec<Step>, stmts: Vec<Stmt>) -> Result<usize, NoMemory>
 
 // The same for a handler that may be missing.
 fn link_if(has: bool, steps: &mut Vec<Step>, stmts: Vec<Stmt>) -> Result<Option<usize>, NoMemory>
-    ensures text { IfOk result (λ first. text_some steps.new.items first ≡ text_if has (map row_in stmts.items)) }
+    ensures text { IfOk result (λ first. text_some steps.new.items first ≡ text_if has (map shown_statement stmts.items)) }
     ensures stays { OnOk result (GoesOn steps.old.items steps.new.items) }
     ensures fits { OnOk result (FitsWith stmts.items steps.old.items steps.new.items) }
 {

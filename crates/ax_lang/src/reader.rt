@@ -1,10 +1,10 @@
 //! The reader of programs.
 ghost use Rattle.std.specs.Prelude.{◌≡◌, ◌++◌, map, true, OnOk, None, Some};
 ghost use Rattle.ax_base.specs.Words.{words_of};
-ghost use Rattle.ax_syntax.specs.Shapes.{seen, shape_of};
+ghost use Rattle.ax_syntax.specs.Shapes.{shown_shape, shape_of};
 ghost use Rattle.ax_lang.specs.Tables.{after, fault_by};
 ghost use Rattle.ax_lang.specs.Rows.{HandlerRows, joined, row_list, rows_at, rows_by};
-ghost use Rattle.ax_lang.specs.Steps.{row_in, row_some, rows_shown};
+ghost use Rattle.ax_lang.specs.Steps.{shown_statement, row_some, shown_handlers};
 ghost use Rattle.ax_lang.specs.Sound.{Sound};
 ghost use Rattle.ax_lang.specs.Programs.{ended, program_in, is_whole, program_of, TakesLine, ReadsProgram};
 
@@ -41,7 +41,7 @@ pub enum ProgFault {
 
 // A statement, if there is one, goes last.
 fn push_some(stmts: &mut Vec<Stmt>, stmt: Option<Stmt>) -> Result<(), NoMemory>
-    ensures { OnOk result (map row_in stmts.new.items ≡ map row_in stmts.old.items ++ row_list (row_some stmt)) }
+    ensures { OnOk result (map shown_statement stmts.new.items ≡ map shown_statement stmts.old.items ++ row_list (row_some stmt)) }
 {
     let Some(stmt) = stmt else {
         return Ok(());
@@ -55,7 +55,7 @@ fn push_some(stmts: &mut Vec<Stmt>, stmt: Option<Stmt>) -> Result<(), NoMemory>
 impl Handlers {
     // A statement, if there is one, goes last into a handler.
     fn push_some(&mut self, timer: bool, stmt: Option<Stmt>) -> Result<(), NoMemory>
-        ensures { OnOk result (rows_shown self.new ≡ joined (rows_shown self.old) (rows_at timer (row_list (row_some stmt)))) }
+        ensures { OnOk result (shown_handlers self.new ≡ joined (shown_handlers self.old) (rows_at timer (row_list (row_some stmt)))) }
     {
         if timer {
             push_some(&mut self.timer, stmt)
@@ -72,10 +72,10 @@ fn take_shape(
     handlers: &mut Handlers,
     shape: &Shape,
 ) -> Result<(), NoMemory>
-    requires sound { Sound tables.old (rows_shown handlers.old) }
-    requires no_fault { fault_by tables.old (seen shape.now) ≡ None }
-    ensures tables { OnOk result (tables.new ≡ after (seen shape.now) tables.old) }
-    ensures rows { OnOk result (rows_shown handlers.new ≡ joined (rows_shown handlers.old) (rows_by (after (seen shape.now) tables.old) (seen shape.now))) }
+    requires sound { Sound tables.old (shown_handlers handlers.old) }
+    requires no_fault { fault_by tables.old (shown_shape shape.now) ≡ None }
+    ensures tables { OnOk result (tables.new ≡ after (shown_shape shape.now) tables.old) }
+    ensures rows { OnOk result (shown_handlers handlers.new ≡ joined (shown_handlers handlers.old) (rows_by (after (shown_shape shape.now) tables.old) (shown_shape shape.now))) }
 {
     tables.take(alloc, shape)?;
     let stmt = stmt_of(alloc, tables, shape)?;
@@ -89,8 +89,8 @@ fn take_line(
     handlers: &mut Handlers,
     line: &Line,
 ) -> Result<(), ProgFault>
-    requires { Sound tables.old (rows_shown handlers.old) }
-    ensures { TakesLine line.now tables.old tables.new (rows_shown handlers.old) (rows_shown handlers.new) result }
+    requires { Sound tables.old (shown_handlers handlers.old) }
+    ensures { TakesLine line.now tables.old tables.new (shown_handlers handlers.old) (shown_handlers handlers.new) result }
 {
     let number = line.number;
     let Ok(words) = words(alloc, line.text.as_slice()) else {
@@ -119,8 +119,8 @@ fn finish(
     handlers: Handlers,
     end: SectionEnd,
 ) -> Result<Program, ProgFault>
-    requires { Sound tables (rows_shown handlers) }
-    ensures { ReadsProgram (ended tables (rows_shown handlers) end) result }
+    requires { Sound tables (shown_handlers handlers) }
+    ensures { ReadsProgram (ended tables (shown_handlers handlers) end) result }
 {
     match tables.fields {
         Some(fields) if tables.row && !tables.inside && end.found => {

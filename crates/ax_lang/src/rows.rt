@@ -2,17 +2,17 @@
 ghost use Rattle.std.specs.Prelude.{◌≡◌, ◌≤◌, length, map, IfOk};
 ghost use Rattle.ax_base.specs.Numbers.{number_of};
 ghost use Rattle.ax_syntax.specs.Words.{keyword_of, field_number};
-ghost use Rattle.ax_syntax.specs.Shapes.{seen as seen_shape, parts_of};
+ghost use Rattle.ax_syntax.specs.Shapes.{shown_shape, parts_of};
 ghost use Rattle.ax_expr.specs.Reading.{tree_of};
-ghost use Rattle.ax_expr.specs.Seen.{seen};
+ghost use Rattle.ax_expr.specs.Shown.{shown_expr};
 ghost use Rattle.ax_lang.specs.Tables.{state_names};
-ghost use Rattle.ax_lang.specs.Rows.{index_of, place_in, moment_or, field_or, atom_of, mark_of, tree_or, tree_in, row_of};
+ghost use Rattle.ax_lang.specs.Rows.{index_of, place_in, moment_or, field_or, atom_of, token_of, tree_or, tree_in, row_of};
 ghost use Rattle.ax_lang.specs.Steps.{row_some};
 
 use crate::step::Stmt;
 use crate::tables::Tables;
 use ax_base::{Bytes, ListOf, NoMemory, read_i64};
-use ax_expr::{Expr, Mark, Refusal, read_expr};
+use ax_expr::{Expr, Token, Refusal, read_expr};
 use ax_state::Decl;
 use ax_syntax::shape::first_part;
 use ax_syntax::words::{field_number, keyword_of, same, sign_of};
@@ -78,39 +78,39 @@ fn atom_of(locals: &[Bytes], word: &[u8]) -> Atom
 }
 
 // What a word is in an expression.
-#[tactic(auto, unfolding(crate::specs::Rows::mark_of))]
-fn mark_of(locals: &[Bytes], word: &[u8]) -> Mark
-    ensures { result ≡ mark_of locals.now word.now }
+#[tactic(auto, unfolding(crate::specs::Rows::token_of))]
+fn token_of(locals: &[Bytes], word: &[u8]) -> Token
+    ensures { result ≡ token_of locals.now word.now }
 {
     if same(word, b"(") {
-        Mark::Open
+        Token::Open
     } else if same(word, b")") {
-        Mark::Close
+        Token::Close
     } else {
         match sign_of(word) {
-            Some(op) => Mark::Sign(op),
-            None => Mark::Operand(atom_of(locals, word)),
+            Some(op) => Token::Sign(op),
+            None => Token::Operand(atom_of(locals, word)),
         }
     }
 }
 
-fn marks_of(alloc: Global, locals: &[Bytes], words: &[Bytes]) -> Result<Vec<Mark>, NoMemory>
-    ensures { IfOk result (λ marks. marks.items ≡ map (mark_of locals.now) words.now) }
+fn tokens_of(alloc: Global, locals: &[Bytes], words: &[Bytes]) -> Result<Vec<Token>, NoMemory>
+    ensures { IfOk result (λ tokens. tokens.items ≡ map (token_of locals.now) words.now) }
 {
-    let mut marks = Vec::new(alloc);
+    let mut tokens = Vec::new(alloc);
     for word in words {
-        if marks.push(mark_of(locals, word.as_slice())).is_err() {
+        if tokens.push(token_of(locals, word.as_slice())).is_err() {
             return Err(NoMemory);
         }
     }
-    Ok(marks)
+    Ok(tokens)
 }
 
-#[tactic(auto, using(crate::proofs::RowLemmas::leaf_seen))]
-fn tree_or(alloc: Global, marks: &[Mark]) -> Result<Expr, NoMemory>
-    ensures { IfOk result (λ tree. seen tree ≡ tree_or (tree_of marks.now)) }
+#[tactic(auto, using(crate::proofs::RowLemmas::leaf_shown))]
+fn tree_or(alloc: Global, tokens: &[Token]) -> Result<Expr, NoMemory>
+    ensures { IfOk result (λ tree. shown_expr tree ≡ tree_or (tree_of tokens.now)) }
 {
-    match read_expr(alloc, marks) {
+    match read_expr(alloc, tokens) {
         Ok(tree) => Ok(tree),
         Err(Refusal::NoMemory) => Err(NoMemory),
         Err(Refusal::Word) => Ok(Expr::Leaf(Atom::Time)),
@@ -120,15 +120,15 @@ fn tree_or(alloc: Global, marks: &[Mark]) -> Result<Expr, NoMemory>
 // The expression of these words.
 #[tactic(auto, unfolding(crate::specs::Rows::tree_in))]
 fn tree_in(alloc: Global, locals: &[Bytes], words: &[Bytes]) -> Result<Expr, NoMemory>
-    ensures { IfOk result (λ tree. seen tree ≡ tree_in locals.now words.now) }
+    ensures { IfOk result (λ tree. shown_expr tree ≡ tree_in locals.now words.now) }
 {
-    let marks = marks_of(alloc, locals, words)?;
-    tree_or(alloc, &marks)
+    let tokens = tokens_of(alloc, locals, words)?;
+    tree_or(alloc, &tokens)
 }
 
 // The expressions of words with commas between them.
 fn trees_in(alloc: Global, locals: &[Bytes], words: &[Bytes]) -> Result<ListOf<Expr>, NoMemory>
-    ensures { IfOk result (λ trees. map seen trees ≡ map (tree_in locals.now) (parts_of words.now)) }
+    ensures { IfOk result (λ trees. map shown_expr trees ≡ map (tree_in locals.now) (parts_of words.now)) }
 {
     let mut trees = ListOf::new(alloc);
     let mut rest = words;
@@ -148,7 +148,7 @@ fn trees_in(alloc: Global, locals: &[Bytes], words: &[Bytes]) -> Result<ListOf<E
 #[tactic(auto, unfolding(crate::specs::Rows::row_of))]
 pub fn stmt_of(alloc: Global, tables: &Tables, shape: &Shape) -> Result<Option<Stmt>, NoMemory>
     requires { length tables.now.states ≤ 64 }
-    ensures { IfOk result (λ stmt. row_some stmt ≡ row_of tables.now (seen_shape shape.now)) }
+    ensures { IfOk result (λ stmt. row_some stmt ≡ row_of tables.now (shown_shape shape.now)) }
 {
     let locals = tables.locals.as_slice();
     let states = tables.states.as_slice();

@@ -2,7 +2,7 @@
 ghost use Rattle.std.specs.Prelude.{◌≡◌, ◌<◌, ◌++◌, ◌∷◌, [], true, OnOk};
 ghost use Rattle.ax_text.specs.declared.vocabulary.Kind.TheVariants.{Value as ValueKind};
 ghost use Rattle.std.specs.Option.{option_copied};
-ghost use Rattle.ax_syntax.specs.Shapes.{seen};
+ghost use Rattle.ax_syntax.specs.Shapes.{shown_shape};
 ghost use Rattle.ax_lang.specs.Tables.{mem, state_names, set_of, reads_of, use_of, is_statement, with_word, with_statement, most_locals, begun, after, start};
 
 use ax_base::{Bytes, Duplicate, ListOf, NoMemory};
@@ -59,7 +59,7 @@ pub fn is_declared(word: &[u8], decls: &[Decl]) -> bool
 
 /// The name that a line assigns.
 pub fn set_of<'a>(shape: &Shape<'a>) -> Option<&'a Bytes>
-    ensures { option_copied result ≡ set_of (seen shape.now) }
+    ensures { option_copied result ≡ set_of (shown_shape shape.now) }
 {
     match shape {
         Shape::Get(name, _, _) => Some(name),
@@ -69,7 +69,7 @@ pub fn set_of<'a>(shape: &Shape<'a>) -> Option<&'a Bytes>
 
 /// The words of a line's expressions.
 pub fn reads_of<'a>(shape: &Shape<'a>) -> &'a [Bytes]
-    ensures { result.now ≡ reads_of (seen shape.now) }
+    ensures { result.now ≡ reads_of (shown_shape shape.now) }
 {
     match shape {
         Shape::Get(_, _, missing) => missing,
@@ -83,7 +83,7 @@ pub fn reads_of<'a>(shape: &Shape<'a>) -> &'a [Bytes]
 
 /// The word in a state's place.
 pub fn use_of<'a>(shape: &Shape<'a>) -> Option<&'a Bytes>
-    ensures { option_copied result ≡ use_of (seen shape.now) }
+    ensures { option_copied result ≡ use_of (shown_shape shape.now) }
 {
     match shape {
         Shape::Get(_, state, _) => Some(state),
@@ -94,7 +94,7 @@ pub fn use_of<'a>(shape: &Shape<'a>) -> Option<&'a Bytes>
 
 /// Whether a line counts as a statement.
 pub fn is_statement(shape: &Shape) -> bool
-    ensures { result ≡ is_statement (seen shape.now) }
+    ensures { result ≡ is_statement (shown_shape shape.now) }
 {
     matches!(
         shape,
@@ -163,7 +163,7 @@ impl Tables {
 
     fn add_statement(&mut self, alloc: Global, shape: &Shape) -> Result<(), NoMemory>
         requires { self.old.statements < 10000 }
-        ensures { OnOk result (self.new ≡ with_statement (seen shape.now) self.old) }
+        ensures { OnOk result (self.new ≡ with_statement (shown_shape shape.now) self.old) }
     {
         add_new(alloc, &mut self.locals, set_of(shape))?;
         self.statements += 1;
@@ -176,8 +176,8 @@ impl Tables {
     /// the tables are of no more use.
     #[tactic(auto, unfolding(crate::specs::Tables::after))]
     pub fn take(&mut self, alloc: Global, shape: &Shape) -> Result<(), NoMemory>
-        requires { is_statement (seen shape.now) ≡ true → self.old.statements < 10000 }
-        ensures { OnOk result (self.new ≡ after (seen shape.now) self.old) }
+        requires { is_statement (shown_shape shape.now) ≡ true → self.old.statements < 10000 }
+        ensures { OnOk result (self.new ≡ after (shown_shape shape.now) self.old) }
     {
         match shape {
             Shape::Input(n) => {

@@ -4,23 +4,28 @@ use Rattle.std.specs.Str.{bytes_eq}
 use Rattle.ax_text.specs.KeyStates.{KeyState, fresh}
 use Rattle.ax_text.specs.Run.{World, state_after}
 use Rattle.ax_text.specs.Programs.{Program, kinds_of}
+use Rattle.ax_text.specs.Jobs.{Job, Group, row_job, firing_job, job_run, group_of, lines_in}
 use Rattle.ax_machine.specs.Entries.{Key, lines_of}
 use Rattle.ax_machine.specs.Events.{Event, Row, Mark, Barrier}
 use Rattle.ax_machine.specs.Firings.{most_firings}
-use Rattle.ax_machine.specs.Sync.{Plain, row_run, firing_run, without_least, first_wm, sync}
+use Rattle.ax_machine.specs.Sync.{without_least, first_wm, sync}
 
--- what a key has, and its lines so far
+-- what a key has, and its groups so far: each job that ran on it, with its lines
 pub record Said : Type 0 where
   pub state : KeyState
-  pub lines : List (List ℤ)
+  pub groups : List Group
 
--- behind a handler's run that began with `state`
-abbrev pub said_after : KeyState → World → Said → Said
-said_after state w s = record { state = state_after state w; lines = s.lines ++ w.talk.lines }
+-- behind a whole run of a job that began with `state`
+abbrev pub said_after : Job → KeyState → World → Said → Said
+said_after j state w s = record { state = state_after state w; groups = s.groups ++ group_of j w ∷ [] }
+
+-- a job runs on the key, which has `state` as it begins
+abbrev pub ran : Program → Job → KeyState → Said → Said
+ran p j state s = said_after j state (job_run p j state.cells) s
 
 abbrev pub fire_first : Program → ℤ → (Said → Said) → List ℤ → Said → Said
 fire_first p w go [] s = s
-fire_first p w go (t ∷ ts) s = if int_le t w then go (said_after (without_least s.state) (firing_run p w s.state t) s) else s
+fire_first p w go (t ∷ ts) s = if int_le t w then go (ran p (firing_job w t) (without_least s.state) s) else s
 
 -- its due timers fire, the first one each time, at most so many
 abbrev pub key_fires : Program → ℤ → ℕ → Said → Said
@@ -33,7 +38,7 @@ pub record KeyPlain : Type 0 where
   pub said : Said
 
 abbrev pub key_row : Program → ℤ → List ℤ → KeyPlain → KeyPlain
-key_row p time values s = record { wm = s.wm; said = said_after s.said.state (row_run p s.wm s.said.state time values) s.said }
+key_row p time values s = record { wm = s.wm; said = ran p (row_job s.wm time values) s.said.state s.said }
 
 abbrev pub key_watermark : Program → ℤ → KeyPlain → KeyPlain
 key_watermark p w s = if int_lt s.wm w then record { wm = w; said = key_fires p w most_firings s.said } else s
@@ -47,14 +52,16 @@ abbrev pub key_steps : Program → Key → List Event → KeyPlain → KeyPlain
 key_steps p k [] s = s
 key_steps p k (e ∷ es) s = key_steps p k es (key_step p k e s)
 
+-- a key that was never touched
+abbrev pub untold : Program → Said
+untold p = record { state = fresh (kinds_of p.states); groups = [] }
+
 -- the thread of one key
 abbrev pub key_sync : Program → Key → List Event → KeyPlain
-key_sync p k es = key_steps p k es (record { wm = first_wm; said = record { state = fresh (kinds_of p.states); lines = [] } })
+key_sync p k es = key_steps p k es (record { wm = first_wm; said = untold p })
 
--- what the plain thread of all keys has and wrote of one key
-abbrev pub key_in : Key → Plain → KeyPlain
-key_in k s = record { wm = s.wm; said = record { state = s.map k; lines = lines_of k s.entries } }
-
--- it is what the thread of that key alone has and wrote
-abbrev pub IsProjected : ℕ → Program → Key → List Event → Type 0
-IsProjected m p k es = key_in k (sync m p es) ≡ key_sync p k es
+-- what the plain thread of all keys has and wrote of one key is what the thread of that key alone has and wrote
+pub record IsProjected (m : ℕ) (p : Program) (k : Key) (es : List Event) : Type 0 where
+  pub wm : (sync m p es).wm ≡ (key_sync p k es).wm
+  pub state : (sync m p es).map k ≡ (key_sync p k es).said.state
+  pub lines : lines_of k (sync m p es).entries ≡ lines_in (key_sync p k es).said.groups

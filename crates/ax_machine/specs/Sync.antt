@@ -5,8 +5,9 @@ use Rattle.std.specs.BTreeSet.{insert_key}
 use Rattle.ax_keys.specs.Keys.{key_cmp}
 use Rattle.ax_text.specs.Times.{later_times}
 use Rattle.ax_text.specs.KeyStates.{KeyState, fresh}
-use Rattle.ax_text.specs.Run.{World, run, begun, state_after}
-use Rattle.ax_text.specs.Programs.{Program, kinds_of, text_or_stop}
+use Rattle.ax_text.specs.Run.{World, state_after}
+use Rattle.ax_text.specs.Programs.{Program, kinds_of}
+use Rattle.ax_text.specs.Jobs.{row_job, firing_job, job_run}
 use Rattle.ax_machine.specs.Entries.{Key, Marker, Watermark, Block, Entry, says}
 use Rattle.ax_machine.specs.Entries as entry
 use Rattle.ax_machine.specs.Events.{Event, Row, Mark, Barrier}
@@ -28,14 +29,6 @@ pub record Plain : Type 0 where
   pub map : Map
   pub entries : List Entry
 
--- the run of a row on what its key has
-abbrev pub row_run : Program → ℤ → KeyState → ℤ → List ℤ → World
-row_run p wm s time values = run (record { time = time; wm = wm; values = values }) p.row (begun s.cells)
-
--- the run of a firing
-abbrev pub firing_run : Program → ℤ → KeyState → ℤ → World
-firing_run p wm s time = run (record { time = time; wm = wm; values = [] }) (text_or_stop p.timer) (begun s.cells)
-
 -- what a handler's run leaves, where it began with `state`
 abbrev pub does : Key → KeyState → World → Plain → Plain
 does k state w s = record { wm = s.wm; keys = s.keys; map = put_at s.map k (state_after state w); entries = s.entries ++ says k w.talk.lines }
@@ -45,7 +38,7 @@ abbrev pub knows : Key → Plain → Plain
 knows k s = record { wm = s.wm; keys = insert_key key_cmp s.keys k; map = s.map; entries = s.entries }
 
 abbrev pub row_step : Program → Key → ℤ → List ℤ → Plain → Plain
-row_step p k time values s = does k (s.map k) (row_run p s.wm (s.map k) time values) (knows k s)
+row_step p k time values s = does k (s.map k) (job_run p (row_job s.wm time values) (s.map k).cells) (knows k s)
 
 -- what a key has without its first timer
 abbrev pub without_least : KeyState → KeyState
@@ -53,7 +46,7 @@ without_least s = record { cells = s.cells; times = later_times s.times }
 
 -- a timer is taken off, and its key's handler runs
 abbrev pub fire : Program → Due → Plain → Plain
-fire p d s = does d.key (without_least (s.map d.key)) (firing_run p s.wm (s.map d.key) d.time) s
+fire p d s = does d.key (without_least (s.map d.key)) (job_run p (firing_job s.wm d.time) (s.map d.key).cells) s
 
 abbrev pub fire_next : Program → ((Key → ℕ) → Plain → Plain) → Option Due → (Key → ℕ) → Plain → Plain
 fire_next p go None more s = s

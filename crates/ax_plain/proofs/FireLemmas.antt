@@ -25,11 +25,11 @@ use Rattle.ax_machine.specs.Sync.{Map, Plain, does, without_least, firing_run, f
 use Rattle.ax_machine.proofs.FiringLemmas.{key_is, total_most, fire_all_next, fire_all_end}
 use Rattle.ax_machine.proofs.StepLemmas.{fire_all_writes, text_of-append}
 use Rattle.ax_lang.specs.declared.program.Program.{Program as CodeProgram}
-use Rattle.ax_lang.specs.Shown.{shown, text_from}
+use Rattle.ax_lang.specs.Shown.{shown_program, text_from}
 use Rattle.ax_plain.specs.declared.agenda.Due.{Due}
 use Rattle.ax_plain.specs.declared.handler.RunFacts.{RunFacts}
 use Rattle.ax_plain.specs.Agenda.{due, timer_of, Lists, without, NoneFires, IsFirstDue, Puts}
-use Rattle.ax_plain.specs.Handler.{facts_in, AppendsSome}
+use Rattle.ax_plain.specs.Handler.{shown_run_facts, AppendsSome}
 use Rattle.ax_plain.specs.Plain.{Held, cells_or, map_of, Fits, run_at}
 use Rattle.ax_plain.proofs.AgendaLemmas.{put_back, pops_next, pops_none}
 use Rattle.ax_plain.proofs.RunLemmas.{AppendsSome-behind, AppendsSome-all}
@@ -63,8 +63,8 @@ taken_fits kinds m t u k f p = record {
 -- then the run of its handler is a firing
 pub fired_is : (p : CodeProgram) (place : ℕ) (facts : RunFacts) (kinds : List Kind) (m : Held) (t u : List Timer) (wm : ℤ) (d : machine.Due)
     → PutsTimes t u d.key (later_times (times_of t d.key))
-    → facts_in facts ≡ record { time = d.time; wm = wm; values = [] } → text_from p place ≡ text_or_stop (shown p).timer
-    → run_at p place facts d.key (plain wm (keys m) (map_of kinds m u)) ≡ fire (shown p) d (plain wm (keys m) (map_of kinds m t))
+    → shown_run_facts facts ≡ record { time = d.time; wm = wm; values = [] } → text_from p place ≡ text_or_stop (shown_program p).timer
+    → run_at p place facts d.key (plain wm (keys m) (map_of kinds m u)) ≡ fire (shown_program p) d (plain wm (keys m) (map_of kinds m t))
 fired_is p place facts kinds m t u wm d h ef et =
     ap₂ (λ (f : Facts) (x : Text). does d.key (map_of kinds m u d.key) (run f x (begun cells)) (plain wm (keys m) (map_of kinds m u))) ef et
     ∙ ap (λ ts. does d.key (key_state cells ts) ran (plain wm (keys m) (map_of kinds m u))) (puts_at t u d.key later h)
@@ -77,7 +77,7 @@ fired_is p place facts kinds m t u wm d h ef et =
     later = later_times (times_of t d.key)
 
     ran : World
-    ran = run (record { time = d.time; wm = wm; values = [] }) (text_or_stop (shown p).timer) (begun cells)
+    ran = run (record { time = d.time; wm = wm; values = [] }) (text_or_stop (shown_program p).timer) (begun cells)
 
     elsewhere : (q : Key) (b : Bool) → bytes_eq d.key q ≡ b
         → cond b (state_after (key_state cells later) ran) (map_of kinds m u q) ≡ cond b (state_after (key_state cells later) ran) (map_of kinds m t q)

@@ -15,8 +15,8 @@ use Rattle.ax_time.specs.declared.timer.Timer.{Timer as CodeTimer}
 use Rattle.ax_time.specs.Timers.{times_of, PutsTimes}
 use Rattle.ax_time.proofs.KeptLemmas.{times_same}
 use Rattle.ax_machine.specs.Entries.{Key, Out, says, text_of, entry_text}
-use Rattle.ax_lang.specs.Rows.{Row, ActRow, AskRow, with_row}
-use Rattle.ax_plain.specs.Handler.{names_in, before, does_row, AppendsSome}
+use Rattle.ax_lang.specs.Rows.{Row, Acts, Asks, with_row}
+use Rattle.ax_plain.specs.Handler.{shown_locals, before, does_row, AppendsSome}
 use Rattle.ax_plain.proofs.TimesLemmas.{puts_then, puts_at, times_after_both}
 
 zero_at : (n i : ℕ) → (i < n) ⊎ (n ≤ i) → get_or (replicate n (pos 0)) i (pos 0) ≡ pos 0
@@ -24,11 +24,11 @@ zero_at n i (inl h) = get_or-replicate n i (pos 0) (pos 0) h
 zero_at n i (inr h) = get_or_past (replicate n (pos 0)) i (pos 0) (omega (arith, length-replicate n (pos 0)))
 
 -- names that are all 0
-pub names_zero : (n : ℕ) → names_in (replicate n (pos 0)) ≡ (λ i. pos 0)
+pub names_zero : (n : ℕ) → shown_locals (replicate n (pos 0)) ≡ (λ i. pos 0)
 names_zero n = fun_ext (λ i. zero_at n i (cases_lt i n))
 
 -- another number at one name
-pub names_set : (xs : List ℤ) (i : ℕ) (n : ℤ) → i < length xs → names_in (slice_set xs i n) ≡ upd (names_in xs) i n
+pub names_set : (xs : List ℤ) (i : ℕ) (n : ℤ) → i < length xs → shown_locals (slice_set xs i n) ≡ upd (shown_locals xs) i n
 names_set xs i n h = fun_ext (λ j. by_place j (nat_eq i j) refl) where
   by_place : (j : ℕ) (b : Bool) → nat_eq i j ≡ b → get_or (slice_set xs i n) j (pos 0) ≡ cond b n (get_or xs j (pos 0))
   by_place j true e = ap (λ k. get_or (slice_set xs i n) k (pos 0)) (sym (eqb-true i j e)) ∙ get_or-set_same xs i n (pos 0) h
@@ -52,23 +52,23 @@ says_both key [] ys = refl
 says_both key (x ∷ xs) ys = ap (λ t. entry_text (Out key x) ++ t) (says_both key xs ys) ∙ sym (append_assoc (entry_text (Out key x)) (text_of (says key xs)) (text_of (says key ys)))
 
 run_row : (f : Facts) (r : Row) (rest : Text) (w : World) → run f (with_row r rest) w ≡ run f rest (does_row f r w)
-run_row f (ActRow q) rest w = refl
-run_row f (AskRow a) rest w = refl
+run_row f (Acts q) rest w = refl
+run_row f (Asks a) rest w = refl
 
 served_after : Row → ℕ → ℕ
-served_after (ActRow q) n = n
-served_after (AskRow a) n = n + 1
+served_after (Acts q) n = n
+served_after (Asks a) n = n + 1
 
 -- a statement does the same whatever was done before it
 does_more : (f : Facts) (r : Row) (names : Names) (lines : List (List ℤ)) (ops : List TimerOp) (cells : Cells) (n : ℕ)
     → does_row f r (world names lines ops cells n)
     ≡ world (does_row f r (before names cells)).talk.names (lines ++ (does_row f r (before names cells)).talk.lines) (ops ++ (does_row f r (before names cells)).talk.ops) (does_row f r (before names cells)).cells (served_after r n)
 unfolding served_after
-does_more f (ActRow (Emit values)) names lines ops cells n = ap (λ (o : List TimerOp). world names (lines ++ map (value f names) values ∷ []) o cells n) (sym (append-nil ops))
-does_more f (ActRow (Timer time)) names lines ops cells n = ap (λ (l : List (List ℤ)). world names l (ops ++ (does_row f (ActRow (Timer time)) (before names cells)).talk.ops) cells n) (sym (append-nil lines))
-does_more f (ActRow (Untimer time)) names lines ops cells n = ap (λ (l : List (List ℤ)). world names l (ops ++ (does_row f (ActRow (Untimer time)) (before names cells)).talk.ops) cells n) (sym (append-nil lines))
-does_more f (AskRow a) names lines ops cells n =
-    ap₂ (λ (l : List (List ℤ)) (o : List TimerOp). world (does_row f (AskRow a) (before names cells)).talk.names l o (does_row f (AskRow a) (before names cells)).cells (n + 1)) (sym (append-nil lines)) (sym (append-nil ops))
+does_more f (Acts (Emit values)) names lines ops cells n = ap (λ (o : List TimerOp). world names (lines ++ map (value f names) values ∷ []) o cells n) (sym (append-nil ops))
+does_more f (Acts (Timer time)) names lines ops cells n = ap (λ (l : List (List ℤ)). world names l (ops ++ (does_row f (Acts (Timer time)) (before names cells)).talk.ops) cells n) (sym (append-nil lines))
+does_more f (Acts (Untimer time)) names lines ops cells n = ap (λ (l : List (List ℤ)). world names l (ops ++ (does_row f (Acts (Untimer time)) (before names cells)).talk.ops) cells n) (sym (append-nil lines))
+does_more f (Asks a) names lines ops cells n =
+    ap₂ (λ (l : List (List ℤ)) (o : List TimerOp). world (does_row f (Asks a) (before names cells)).talk.names l o (does_row f (Asks a) (before names cells)).cells (n + 1)) (sym (append-nil lines)) (sym (append-nil ops))
 
 pub start_gone_on : (f : Facts) (key : Key) (rest : Text) (h : Option (List ℕ)) (t : List CodeTimer) (names : Names) (cells : Cells) → names ≡ (λ i. pos 0) → GoneOn f key (run f rest (begun cells)) h h t t rest names cells
 start_gone_on f key rest h t names cells e = record {

@@ -20,7 +20,7 @@ use Rattle.ax_text.specs.Programs.{untouched}
 use Rattle.ax_text.specs.Texts.{Text}
 use Rattle.ax_text.specs.Run.{World, run, begun, state_after, times_after}
 use Rattle.ax_keys.specs.Keys.{key_cmp}
-use Rattle.ax_state.specs.KeyCells.{cells_of, kinds_in}
+use Rattle.ax_state.specs.KeyCells.{shown_cells, cell_kinds}
 use Rattle.ax_time.specs.declared.timer.Timer.{Timer}
 use Rattle.ax_time.specs.Timers.{times_of, PutsTimes}
 use Rattle.ax_time.proofs.KeptLemmas.{same_key}
@@ -29,9 +29,9 @@ use Rattle.ax_machine.specs.Entries.{Key, text_of}
 use Rattle.ax_machine.specs.Sync.{Map, Plain, put_at, does, knows, row_step, silent}
 use Rattle.ax_machine.proofs.FiringLemmas.{key_is}
 use Rattle.ax_lang.specs.declared.program.Program.{Program}
-use Rattle.ax_lang.specs.Shown.{shown, text_from}
+use Rattle.ax_lang.specs.Shown.{shown_program, text_from}
 use Rattle.ax_plain.specs.declared.handler.RunFacts.{RunFacts}
-use Rattle.ax_plain.specs.Handler.{facts_in, AppendsSome}
+use Rattle.ax_plain.specs.Handler.{shown_run_facts, AppendsSome}
 use Rattle.ax_plain.specs.Plain.{Held, cells_or, map_of, FitsIfHeld, Fits, run_at}
 use Rattle.ax_plain.proofs.TimesLemmas.{puts_elsewhere}
 
@@ -48,7 +48,7 @@ Holds m n k cells = (q : Key) → get key_cmp n q ≡ cond (is_at (key_cmp k) q)
 holds_by : (m n : Held) (k : Key) (cells : List Cell) → Holds m n k cells → (q : Key) (b : Bool) → bytes_eq k q ≡ b → get key_cmp n q ≡ cond b (Some cells) (get key_cmp m q)
 holds_by m n k cells h q b e = h q ∙ ap (λ (c : Bool). cond c (Some cells) (get key_cmp m q)) (same_key k q ∙ e)
 
-pub held_fits : (kinds : List Kind) (o : Option (List Cell)) (cells : List Cell) → Some cells ≡ o → FitsIfHeld kinds o → kinds_in cells ≡ kinds
+pub held_fits : (kinds : List Kind) (o : Option (List Cell)) (cells : List Cell) → Some cells ≡ o → FitsIfHeld kinds o → cell_kinds cells ≡ kinds
 held_fits kinds o cells e h = subst (FitsIfHeld kinds) (sym e) h
 
 -- a key of which something is held is among the keys
@@ -66,7 +66,7 @@ keys_inserted cmp k v (e ∷ es) = by (cmp k e.0) ∙ ap (λ l. match_ordering (
 
 module _ (kinds : List Kind) (m n : Held) (t u : List Timer) (k : Key) (cells : List Cell) (h : Holds m n k cells) where
   -- behind a run on what is held of the key
-  ran_map : (w : World) → cells_of cells ≡ w.cells → PutsTimes t u k (times_after w.talk.ops (times_of t k))
+  ran_map : (w : World) → shown_cells cells ≡ w.cells → PutsTimes t u k (times_after w.talk.ops (times_of t k))
       → map_of kinds n u ≡ put_at (map_of kinds m t) k (state_after (map_of kinds m t k) w)
   ran_map w e p = fun_ext (λ q. ap₂ key_state (ap (cells_or kinds) (holds_by m n k cells h q (bytes_eq k q) refl)) (p q) ∙ by_key q (bytes_eq k q)) where
     by_key : (q : Key) (b : Bool) → key_state (cells_or kinds (cond b (Some cells) (get key_cmp m q))) (cond b (times_after w.talk.ops (times_of t k)) (times_of t q))
@@ -74,7 +74,7 @@ module _ (kinds : List Kind) (m n : Held) (t u : List Timer) (k : Key) (cells : 
     by_key q true = ap (λ c. key_state c (times_after w.talk.ops (times_of t k))) e
     by_key q false = refl
 
-  pub ran_plain : (wm : ℤ) (w : World) → keys n ≡ keys m → cells_of cells ≡ w.cells → PutsTimes t u k (times_after w.talk.ops (times_of t k))
+  pub ran_plain : (wm : ℤ) (w : World) → keys n ≡ keys m → shown_cells cells ≡ w.cells → PutsTimes t u k (times_after w.talk.ops (times_of t k))
       → plain wm (keys n) (map_of kinds n u) ≡ silent (does k (map_of kinds m t k) w (plain wm (keys m) (map_of kinds m t)))
   ran_plain wm w ks e p = ap₂ (plain wm) ks (ran_map w e p)
 
@@ -86,7 +86,7 @@ module _ (kinds : List Kind) (m n : Held) (t u : List Timer) (k : Key) (cells : 
   no_times xs a p q none true e = let held : Some cells ≡ None = sym (holds_by m n k cells h q true e) ∙ none in absurd (cc)
   no_times xs a p q none false e = puts_elsewhere t u k q xs p e ∙ a.times q (sym (holds_by m n k cells h q false e) ∙ none)
 
-  pub ran_fits : (xs : List ℤ) → kinds_in cells ≡ kinds → Fits kinds m t → PutsTimes t u k xs → Fits kinds n u
+  pub ran_fits : (xs : List ℤ) → cell_kinds cells ≡ kinds → Fits kinds m t → PutsTimes t u k xs → Fits kinds n u
   ran_fits xs f a p = record {
     cells = λ q. put_fits f a q (bytes_eq k q) refl;
     times = λ q none. no_times xs a p q none (bytes_eq k q) refl;
@@ -94,13 +94,13 @@ module _ (kinds : List Kind) (m n : Held) (t u : List Timer) (k : Key) (cells : 
 
 -- nothing was held of a key, and now its untouched states are
 module _ (kinds : List Kind) (m n : Held) (t : List Timer) (k : Key) (cells : List Cell) (none : get key_cmp m k ≡ None) (h : Holds m n k cells) where
-  held_map : cells_of cells ≡ untouched kinds → map_of kinds n t ≡ map_of kinds m t
+  held_map : shown_cells cells ≡ untouched kinds → map_of kinds n t ≡ map_of kinds m t
   held_map e = fun_ext (λ q. ap (λ c. key_state c (times_of t q)) (by_key q (bytes_eq k q) refl)) where
     by_key : (q : Key) (b : Bool) → bytes_eq k q ≡ b → cells_or kinds (get key_cmp n q) ≡ cells_or kinds (get key_cmp m q)
     by_key q true f = ap (cells_or kinds) (holds_by m n k cells h q true f) ∙ e ∙ sym (ap (cells_or kinds) none) ∙ ap (λ x. cells_or kinds (get key_cmp m x)) (key_is k q f)
     by_key q false f = ap (cells_or kinds) (holds_by m n k cells h q false f)
 
-  pub held_plain : (wm : ℤ) → n.entries ≡ insert_entry key_cmp m.entries k cells → cells_of cells ≡ untouched kinds
+  pub held_plain : (wm : ℤ) → n.entries ≡ insert_entry key_cmp m.entries k cells → shown_cells cells ≡ untouched kinds
       → plain wm (keys n) (map_of kinds n t) ≡ knows k (plain wm (keys m) (map_of kinds m t))
   held_plain wm es e = ap₂ (plain wm) (ap keys_of es ∙ keys_inserted key_cmp k cells m.entries) (held_map e)
 
@@ -109,16 +109,16 @@ knows_again k s e = ap (λ (ks : List Key). record { wm = s.wm; keys = ks; map =
 
 -- a row's run is the step of the row
 pub row_is : (p : Program) (place : ℕ) (facts : RunFacts) (k : Key) (time : ℤ) (values : List ℤ) (s s' : Plain)
-    → facts_in facts ≡ record { time = time; wm = s.wm; values = values } → text_from p place ≡ (shown p).row → s' ≡ knows k s
-    → run_at p place facts k s' ≡ row_step (shown p) k time values s
+    → shown_run_facts facts ≡ record { time = time; wm = s.wm; values = values } → text_from p place ≡ (shown_program p).row → s' ≡ knows k s
+    → run_at p place facts k s' ≡ row_step (shown_program p) k time values s
 row_is p place facts k time values s s' ef et es =
     ap (run_at p place facts k) es
     ∙ ap₂ (λ (f : Facts) (x : Text). does k (s.map k) (run f x (begun (s.map k).cells)) (knows k s)) ef et
 
 -- of a key that is known
 pub row_known : (p : Program) (place : ℕ) (facts : RunFacts) (k : Key) (time : ℤ) (values : List ℤ) (s : Plain)
-    → facts_in facts ≡ record { time = time; wm = s.wm; values = values } → text_from p place ≡ (shown p).row → insert_key key_cmp s.keys k ≡ s.keys
-    → run_at p place facts k s ≡ row_step (shown p) k time values s
+    → shown_run_facts facts ≡ record { time = time; wm = s.wm; values = values } → text_from p place ≡ (shown_program p).row → insert_key key_cmp s.keys k ≡ s.keys
+    → run_at p place facts k s ≡ row_step (shown_program p) k time values s
 row_known p place facts k time values s ef et known = row_is p place facts k time values s s ef et (knows_again k s known)
 
 -- what was written, where nothing was written before it

@@ -8,20 +8,20 @@ use Rattle.ax_text.specs.Functions.{at}
 use Rattle.ax_text.specs.Exprs.{Facts, Names}
 use Rattle.ax_text.specs.Cells.{Cell, Cells}
 use Rattle.ax_text.specs.Run.{World, run, begun, act_in, ask_in}
-use Rattle.ax_state.specs.KeyCells.{cells_of}
-use Rattle.ax_lang.specs.Rows.{Row, ActRow, AskRow}
-use Rattle.ax_lang.specs.Steps.{row_in}
+use Rattle.ax_state.specs.KeyCells.{shown_cells}
+use Rattle.ax_lang.specs.Rows.{Statement, Acts, Asks}
+use Rattle.ax_lang.specs.Steps.{shown_statement}
 use Rattle.ax_lang.specs.Shown.{text_from}
 use Rattle.ax_lang.specs.declared.step.Stmt.{Stmt}
 use Rattle.ax_lang.specs.declared.program.Program.{Program}
 use Rattle.ax_plain.specs.declared.handler.RunFacts.{RunFacts}
 
-abbrev pub facts_in : RunFacts → Facts
-facts_in facts = record { time = facts.time; wm = facts.wm; values = facts.values.now }
+abbrev pub shown_run_facts : RunFacts → Facts
+shown_run_facts facts = record { time = facts.time; wm = facts.wm; values = facts.values.now }
 
 -- the local names; one that has no number counts as 0
-abbrev pub names_in : List ℤ → Names
-names_in numbers = at numbers (pos 0)
+abbrev pub shown_locals : List ℤ → Names
+shown_locals numbers = at numbers (pos 0)
 
 -- a world in which nothing was written yet
 abbrev pub before : Names → Cells → World
@@ -29,16 +29,16 @@ before names cells = record { talk = record { names = names; lines = []; ops = [
 
 -- one statement
 abbrev pub does_row : Facts → Row → World → World
-does_row f (ActRow quiet) w = act_in f quiet w
-does_row f (AskRow asking) w = ask_in f asking w
+does_row f (Acts quiet) w = act_in f quiet w
+does_row f (Asks asking) w = ask_in f asking w
 
 -- the same, of the code's statement, from these names and states
 abbrev pub did : RunFacts → Stmt → List ℤ → List Cell → World
-did facts stmt names cells = does_row (facts_in facts) (row_in stmt) (before (names_in names) (cells_of cells))
+did facts stmt names cells = does_row (shown_run_facts facts) (shown_statement stmt) (before (shown_locals names) (shown_cells cells))
 
 -- what stands from a place on, run on these states
 abbrev pub run_from : Program → ℕ → RunFacts → Cells → World
-run_from p place facts cells = run (facts_in facts) (text_from p place) (begun cells)
+run_from p place facts cells = run (shown_run_facts facts) (text_from p place) (begun cells)
 
 -- a failure of the sink comes only where its count of failures rose; memory may be short at any time
 abbrev pub HasSinkCause : {T : Type 0} → ℕ → ℕ → Result T SinkFault → Type 0

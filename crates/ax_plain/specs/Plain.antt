@@ -5,7 +5,7 @@ use Rattle.ax_text.specs.declared.vocabulary.Kind.{Kind}
 use Rattle.ax_text.specs.Cells.{Cell, Cells}
 use Rattle.ax_text.specs.Programs.{untouched}
 use Rattle.ax_keys.specs.Keys.{key_cmp}
-use Rattle.ax_state.specs.KeyCells.{cells_of, kinds_in}
+use Rattle.ax_state.specs.KeyCells.{shown_cells, cell_kinds}
 use Rattle.ax_time.specs.declared.timer.Timer.{Timer}
 use Rattle.ax_time.specs.Timers.{times_of}
 use Rattle.ax_lang.specs.declared.program.Program.{Program}
@@ -25,19 +25,19 @@ Held = BTreeMap Key (List Cell)
 
 abbrev pub cells_or : List Kind → Option (List Cell) → Cells
 cells_or kinds None = untouched kinds
-cells_or kinds (Some cells) = cells_of cells
+cells_or kinds (Some cells) = shown_cells cells
 
 -- what every key has; the states of a key of which nothing is held were never touched
 abbrev pub map_of : List Kind → Held → List Timer → Map
 map_of kinds held timers key = record { cells = cells_or kinds (get key_cmp held key); times = times_of timers key }
 
 -- the plain thread of the definitions, of which what was written is left aside
-abbrev pub plain_in : List Kind → PlainThread → Plain
-plain_in kinds thread = record { wm = thread.wm; keys = keys thread.states; map = map_of kinds thread.states thread.timers; entries = [] }
+abbrev pub shown_plain : List Kind → PlainThread → Plain
+shown_plain kinds thread = record { wm = thread.wm; keys = keys thread.states; map = map_of kinds thread.states thread.timers; entries = [] }
 
 abbrev pub FitsIfHeld : List Kind → Option (List Cell) → Type 0
 FitsIfHeld kinds None = Unit {0}
-FitsIfHeld kinds (Some cells) = kinds_in cells ≡ kinds
+FitsIfHeld kinds (Some cells) = cell_kinds cells ≡ kinds
 
 -- what is held of each key has just these kinds, and a key of which nothing is held has no timer
 pub record Fits (kinds : List Kind) (held : Held) (timers : List Timer) : Type 0 where
@@ -54,5 +54,5 @@ run_at p place facts key s = does key (s.map key) (run_from p place facts (s.map
 -- nothing is held of a key, and nothing has happened
 pub record IsAbsent (kinds : List Kind) (key : Key) (old new : PlainThread) (h h' : Option (List ℕ)) : Type 0 where
   pub none : get key_cmp new.states key ≡ None
-  pub same : plain_in kinds new ≡ plain_in kinds old
+  pub same : shown_plain kinds new ≡ shown_plain kinds old
   pub silent : h' ≡ h

@@ -6,9 +6,9 @@ ghost use Rattle.std.specs.Io.KnownBytes.{Appends};
 ghost use Rattle.ax_keys.specs.Keys.{key_cmp};
 ghost use Rattle.ax_machine.specs.Entries.{Mark, entry_text};
 ghost use Rattle.ax_machine.specs.Sync.{block_of};
-ghost use Rattle.ax_lang.specs.Shown.{shown, kinds_in};
+ghost use Rattle.ax_lang.specs.Shown.{shown_program, shown_kinds};
 ghost use Rattle.ax_plain.specs.Handler.{HasSinkCause, AppendsSome};
-ghost use Rattle.ax_plain.specs.Plain.{groups, plain_in, ThreadFits};
+ghost use Rattle.ax_plain.specs.Plain.{groups, shown_plain, ThreadFits};
 ghost use Rattle.ax_plain.specs.Snaps.{snap_of};
 
 use crate::plain::{PlainThread, States};
@@ -59,11 +59,11 @@ impl PlainThread {
         id: &i64,
         out: &mut K,
     ) -> Result<(), SinkFault>
-        requires { ThreadFits (kinds_in program.now) self.now }
+        requires { ThreadFits (shown_kinds program.now) self.now }
         ensures lines { OnOk result (Appends (K.holds out.old) (K.holds out.new)
-            (entry_text (Mark (block_of groups (shown program.now) id.now (plain_in (kinds_in program.now) self.now))))) }
+            (entry_text (Mark (block_of groups (shown_program program.now) id.now (shown_plain (shown_kinds program.now) self.now))))) }
         ensures part { OnErr result (AppendsSome (K.holds out.old) (K.holds out.new)
-            (entry_text (Mark (block_of groups (shown program.now) id.now (plain_in (kinds_in program.now) self.now))))) }
+            (entry_text (Mark (block_of groups (shown_program program.now) id.now (shown_plain (shown_kinds program.now) self.now))))) }
         ensures faults { K.faults out.old ≤ K.faults out.new }
         ensures short { K.short out.old ≤ K.short out.new }
         ensures cause { HasSinkCause (K.faults out.old) (K.faults out.new) result }
@@ -76,8 +76,8 @@ impl PlainThread {
 
     // The block of a barrier.
     fn block(&self, program: &Program, id: &i64) -> Result<Bytes, NoMemory>
-        requires { ThreadFits (kinds_in program.now) self.now }
-        ensures { IfOk result (λ bytes. bytes ≡ entry_text (Mark (block_of groups (shown program.now) id.now (plain_in (kinds_in program.now) self.now)))) }
+        requires { ThreadFits (shown_kinds program.now) self.now }
+        ensures { IfOk result (λ bytes. bytes ≡ entry_text (Mark (block_of groups (shown_program program.now) id.now (shown_plain (shown_kinds program.now) self.now)))) }
     {
         let snapshot = Snapshot {
             id: *id,

@@ -5,10 +5,10 @@ ghost use Rattle.ax_text.specs.Times.{least_time};
 ghost use Rattle.ax_time.specs.Timers.{times_of};
 ghost use Rattle.ax_machine.specs.Entries.{Watermark, text_of};
 ghost use Rattle.ax_machine.specs.Sync.{all_fired, at_watermark, fire, silent, watermark_step, writes};
-ghost use Rattle.ax_lang.specs.Shown.{shown, kinds_in};
+ghost use Rattle.ax_lang.specs.Shown.{shown_program, shown_kinds};
 ghost use Rattle.ax_plain.specs.Agenda.{due};
 ghost use Rattle.ax_plain.specs.Handler.{HasSinkCause, AppendsSome};
-ghost use Rattle.ax_plain.specs.Plain.{plain_in, ThreadFits};
+ghost use Rattle.ax_plain.specs.Plain.{shown_plain, ThreadFits};
 
 use crate::agenda::{Agenda, Due};
 use crate::plain::{PlainThread, run_facts};
@@ -23,14 +23,14 @@ impl PlainThread {
         time: &i64,
         out: &mut K,
     ) -> Result<(), SinkFault>
-        requires { ThreadFits (kinds_in program.now) self.old }
-        ensures fits { OnOk result (ThreadFits (kinds_in program.now) self.new) }
-        ensures steps { OnOk result (plain_in (kinds_in program.now) self.new
-            ≡ silent (watermark_step (shown program.now) time.now (plain_in (kinds_in program.now) self.old))) }
+        requires { ThreadFits (shown_kinds program.now) self.old }
+        ensures fits { OnOk result (ThreadFits (shown_kinds program.now) self.new) }
+        ensures steps { OnOk result (shown_plain (shown_kinds program.now) self.new
+            ≡ silent (watermark_step (shown_program program.now) time.now (shown_plain (shown_kinds program.now) self.old))) }
         ensures lines { OnOk result (Appends (K.holds out.old) (K.holds out.new)
-            (text_of (watermark_step (shown program.now) time.now (plain_in (kinds_in program.now) self.old)).entries)) }
+            (text_of (watermark_step (shown_program program.now) time.now (shown_plain (shown_kinds program.now) self.old)).entries)) }
         ensures part { OnErr result (AppendsSome (K.holds out.old) (K.holds out.new)
-            (text_of (watermark_step (shown program.now) time.now (plain_in (kinds_in program.now) self.old)).entries)) }
+            (text_of (watermark_step (shown_program program.now) time.now (shown_plain (shown_kinds program.now) self.old)).entries)) }
         ensures faults { K.faults out.old ≤ K.faults out.new }
         ensures short { K.short out.old ≤ K.short out.new }
         ensures cause { HasSinkCause (K.faults out.old) (K.faults out.new) result }
@@ -49,14 +49,14 @@ impl PlainThread {
         time: &i64,
         out: &mut K,
     ) -> Result<(), SinkFault>
-        requires { ThreadFits (kinds_in program.now) self.old }
-        ensures fits { OnOk result (ThreadFits (kinds_in program.now) self.new) }
-        ensures steps { OnOk result (plain_in (kinds_in program.now) self.new
-            ≡ silent (all_fired (shown program.now) (at_watermark time.now (plain_in (kinds_in program.now) self.old)))) }
+        requires { ThreadFits (shown_kinds program.now) self.old }
+        ensures fits { OnOk result (ThreadFits (shown_kinds program.now) self.new) }
+        ensures steps { OnOk result (shown_plain (shown_kinds program.now) self.new
+            ≡ silent (all_fired (shown_program program.now) (at_watermark time.now (shown_plain (shown_kinds program.now) self.old)))) }
         ensures lines { OnOk result (Appends (K.holds out.old) (K.holds out.new)
-            (text_of (writes (Watermark time.now) (all_fired (shown program.now) (at_watermark time.now (plain_in (kinds_in program.now) self.old)))).entries)) }
+            (text_of (writes (Watermark time.now) (all_fired (shown_program program.now) (at_watermark time.now (shown_plain (shown_kinds program.now) self.old)))).entries)) }
         ensures part { OnErr result (AppendsSome (K.holds out.old) (K.holds out.new)
-            (text_of (writes (Watermark time.now) (all_fired (shown program.now) (at_watermark time.now (plain_in (kinds_in program.now) self.old)))).entries)) }
+            (text_of (writes (Watermark time.now) (all_fired (shown_program program.now) (at_watermark time.now (shown_plain (shown_kinds program.now) self.old)))).entries)) }
         ensures faults { K.faults out.old ≤ K.faults out.new }
         ensures short { K.short out.old ≤ K.short out.new }
         ensures cause { HasSinkCause (K.faults out.old) (K.faults out.new) result }
@@ -76,15 +76,15 @@ impl PlainThread {
         time: &i64,
         out: &mut K,
     ) -> Result<(), SinkFault>
-        requires fits { ThreadFits (kinds_in program.now) self.old }
+        requires fits { ThreadFits (shown_kinds program.now) self.old }
         requires mark { self.old.wm ≡ time.now }
-        ensures fits { OnOk result (ThreadFits (kinds_in program.now) self.new) }
-        ensures steps { OnOk result (plain_in (kinds_in program.now) self.new
-            ≡ silent (all_fired (shown program.now) (plain_in (kinds_in program.now) self.old))) }
+        ensures fits { OnOk result (ThreadFits (shown_kinds program.now) self.new) }
+        ensures steps { OnOk result (shown_plain (shown_kinds program.now) self.new
+            ≡ silent (all_fired (shown_program program.now) (shown_plain (shown_kinds program.now) self.old))) }
         ensures lines { OnOk result (Appends (K.holds out.old) (K.holds out.new)
-            (text_of (all_fired (shown program.now) (plain_in (kinds_in program.now) self.old)).entries)) }
+            (text_of (all_fired (shown_program program.now) (shown_plain (shown_kinds program.now) self.old)).entries)) }
         ensures part { OnErr result (AppendsSome (K.holds out.old) (K.holds out.new)
-            (text_of (all_fired (shown program.now) (plain_in (kinds_in program.now) self.old)).entries)) }
+            (text_of (all_fired (shown_program program.now) (shown_plain (shown_kinds program.now) self.old)).entries)) }
         ensures faults { K.faults out.old ≤ K.faults out.new }
         ensures short { K.short out.old ≤ K.short out.new }
         ensures cause { HasSinkCause (K.faults out.old) (K.faults out.new) result }
@@ -109,15 +109,15 @@ impl PlainThread {
         timer: &Due,
         out: &mut K,
     ) -> Result<(), SinkFault>
-        requires fits { ThreadFits (kinds_in program.now) self.old }
+        requires fits { ThreadFits (shown_kinds program.now) self.old }
         requires first { least_time (times_of self.old.timers timer.now.key) ≡ Some timer.now.time }
-        ensures fits { OnOk result (ThreadFits (kinds_in program.now) self.new) }
-        ensures steps { OnOk result (plain_in (kinds_in program.now) self.new
-            ≡ silent (fire (shown program.now) (due timer.now) (plain_in (kinds_in program.now) self.old))) }
+        ensures fits { OnOk result (ThreadFits (shown_kinds program.now) self.new) }
+        ensures steps { OnOk result (shown_plain (shown_kinds program.now) self.new
+            ≡ silent (fire (shown_program program.now) (due timer.now) (shown_plain (shown_kinds program.now) self.old))) }
         ensures lines { OnOk result (Appends (K.holds out.old) (K.holds out.new)
-            (text_of (fire (shown program.now) (due timer.now) (plain_in (kinds_in program.now) self.old)).entries)) }
+            (text_of (fire (shown_program program.now) (due timer.now) (shown_plain (shown_kinds program.now) self.old)).entries)) }
         ensures part { OnErr result (AppendsSome (K.holds out.old) (K.holds out.new)
-            (text_of (fire (shown program.now) (due timer.now) (plain_in (kinds_in program.now) self.old)).entries)) }
+            (text_of (fire (shown_program program.now) (due timer.now) (shown_plain (shown_kinds program.now) self.old)).entries)) }
         ensures faults { K.faults out.old ≤ K.faults out.new }
         ensures short { K.short out.old ≤ K.short out.new }
         ensures cause { HasSinkCause (K.faults out.old) (K.faults out.new) result }

@@ -12,14 +12,14 @@ ghost use Rattle.ax_text.specs.Times.{insert_time, remove_time};
 ghost use Rattle.ax_text.specs.Run.{number_or, times_after};
 ghost use Rattle.ax_machine.specs.Entries.{Out, says, text_of, entry_text, numbers_text, marker_text, Watermark};
 ghost use Rattle.ax_state.specs.Fits.{has_kind};
-ghost use Rattle.ax_state.specs.KeyCells.{cells_of, kinds_in};
+ghost use Rattle.ax_state.specs.KeyCells.{shown_cells, cell_kinds};
 ghost use Rattle.ax_time.specs.Timers.{PutsTimes, times_of};
-ghost use Rattle.ax_expr.specs.Seen.{seen};
-ghost use Rattle.ax_expr.specs.Scopes.{facts_of, names_of};
-ghost use Rattle.ax_lang.specs.Rows.{ActRow, AskRow};
+ghost use Rattle.ax_expr.specs.Shown.{shown_expr};
+ghost use Rattle.ax_expr.specs.Scopes.{shown_facts, shown_names};
+ghost use Rattle.ax_lang.specs.Rows.{Acts, Asks};
 ghost use Rattle.ax_lang.specs.Steps.{stmt_fits};
 ghost use Rattle.ax_lang.specs.Shown as lang;
-ghost use Rattle.ax_plain.specs.Handler.{facts_in, names_in, before, does_row, did, run_from, HasSinkCause, AppendsSome};
+ghost use Rattle.ax_plain.specs.Handler.{shown_run_facts, shown_locals, before, does_row, did, run_from, HasSinkCause, AppendsSome};
 
 use ax_base::{NoMemory, Sink, SinkFault, write_all};
 use ax_expr::{Expr, Scope};
@@ -92,8 +92,8 @@ impl Room {
 
 // What an expression may speak of.
 fn scope_of<'a>(facts: &RunFacts<'a>, names: &'a [i64]) -> Scope<'a>
-    ensures facts { facts_of result ≡ facts_in facts.now }
-    ensures names { names_of result ≡ names_in names.now }
+    ensures facts { shown_facts result ≡ shown_run_facts facts.now }
+    ensures names { shown_names result ≡ shown_locals names.now }
 {
     Scope {
         time: facts.time,
@@ -105,7 +105,7 @@ fn scope_of<'a>(facts: &RunFacts<'a>, names: &'a [i64]) -> Scope<'a>
 
 // The value of an expression.
 fn value_of(expr: &Expr, facts: &RunFacts<'_>, names: &[i64]) -> i64
-    ensures value { result ≡ value (facts_in facts.now) (names_in names.now) (seen expr.now) }
+    ensures value { result ≡ value (shown_run_facts facts.now) (shown_locals names.now) (shown_expr expr.now) }
     ensures fits { FitsSigned w64 result }
 {
     expr.value(&scope_of(facts, names))
@@ -122,7 +122,7 @@ fn put_bytes(text: &mut Vec<u8>, bytes: &[u8]) -> Result<(), NoMemory>
 
 // Writes a space and the value of an expression.
 fn put_value(text: &mut Vec<u8>, expr: &Expr, scope: &Scope<'_>) -> Result<(), NoMemory>
-    ensures { OnOk result (text.new.items ≡ text.old.items ++ 32 ∷ signed_decimal (value (facts_of scope.now) (names_of scope.now) (seen expr.now))) }
+    ensures { OnOk result (text.new.items ≡ text.old.items ++ 32 ∷ signed_decimal (value (shown_facts scope.now) (shown_names scope.now) (shown_expr expr.now))) }
 {
     let number = expr.value(scope);
     let mut digits = Buffer::new();
@@ -131,7 +131,7 @@ fn put_value(text: &mut Vec<u8>, expr: &Expr, scope: &Scope<'_>) -> Result<(), N
 }
 
 fn put_values(text: &mut Vec<u8>, exprs: &[Expr], scope: &Scope<'_>) -> Result<(), NoMemory>
-    ensures { OnOk result (text.new.items ≡ text.old.items ++ numbers_text (map (value (facts_of scope.now) (names_of scope.now)) (map seen exprs.now))) }
+    ensures { OnOk result (text.new.items ≡ text.old.items ++ numbers_text (map (value (shown_facts scope.now) (shown_names scope.now)) (map shown_expr exprs.now))) }
 {
     for expr in exprs {
         put_value(text, expr, scope)?;
@@ -146,7 +146,7 @@ fn put_line(
     exprs: &[Expr],
     scope: &Scope<'_>,
 ) -> Result<(), NoMemory>
-    ensures { OnOk result (text.new.items ≡ entry_text (Out key.now (map (value (facts_of scope.now) (names_of scope.now)) (map seen exprs.now)))) }
+    ensures { OnOk result (text.new.items ≡ entry_text (Out key.now (map (value (shown_facts scope.now) (shown_names scope.now)) (map shown_expr exprs.now)))) }
 {
     text.clear();
     put_bytes(text, b"o ")?;
@@ -164,8 +164,8 @@ fn run_emit<K: Sink>(
     facts: &RunFacts<'_>,
     out: &mut K,
 ) -> Result<(), SinkFault>
-    ensures lines { OnOk result (Appends (K.holds out.old) (K.holds out.new) (entry_text (Out key.now (map (value (facts_in facts.now) (names_in names.now)) (map seen exprs.now))))) }
-    ensures part { OnErr result (AppendsSome (K.holds out.old) (K.holds out.new) (entry_text (Out key.now (map (value (facts_in facts.now) (names_in names.now)) (map seen exprs.now))))) }
+    ensures lines { OnOk result (Appends (K.holds out.old) (K.holds out.new) (entry_text (Out key.now (map (value (shown_run_facts facts.now) (shown_locals names.now)) (map shown_expr exprs.now))))) }
+    ensures part { OnErr result (AppendsSome (K.holds out.old) (K.holds out.new) (entry_text (Out key.now (map (value (shown_run_facts facts.now) (shown_locals names.now)) (map shown_expr exprs.now))))) }
     ensures faults { K.faults out.old ≤ K.faults out.new }
     ensures short { K.short out.old ≤ K.short out.new }
     ensures cause { HasSinkCause (K.faults out.old) (K.faults out.new) result }
@@ -184,8 +184,8 @@ fn number_of(
     facts: &RunFacts<'_>,
     cells: &KeyCells,
 ) -> i64
-    requires { has_kind (kinds_in cells.now) state kind.Value ≡ true }
-    ensures { result ≡ number_or (answer_of (request.ValueGet state) (cells_of cells.now)) (value (facts_in facts.now) (names_in names.now) (seen missing.now)) }
+    requires { has_kind (cell_kinds cells.now) state kind.Value ≡ true }
+    ensures { result ≡ number_or (answer_of (request.ValueGet state) (shown_cells cells.now)) (value (shown_run_facts facts.now) (shown_locals names.now) (shown_expr missing.now)) }
 {
     match cells.value(state) {
         Some(number) => number,
@@ -203,8 +203,8 @@ fn run_get(
     cells: &KeyCells,
 )
     requires name { name < length names.old }
-    requires kind { has_kind (kinds_in cells.now) state kind.Value ≡ true }
-    ensures { names_in names.new ≡ (does_row (facts_in facts.now) (AskRow (Get name state (seen missing.now))) (before (names_in names.old) (cells_of cells.now))).talk.names }
+    requires kind { has_kind (cell_kinds cells.now) state kind.Value ≡ true }
+    ensures { shown_locals names.new ≡ (does_row (shown_run_facts facts.now) (Asks (Get name state (shown_expr missing.now))) (before (shown_locals names.old) (shown_cells cells.now))).talk.names }
 {
     let number = number_of(names, state, missing, facts, cells);
     names[name] = number;
@@ -218,9 +218,9 @@ fn run_put(
     facts: &RunFacts<'_>,
     cells: &mut KeyCells,
 ) -> Result<(), NoMemory>
-    requires { has_kind (kinds_in cells.old) state kind.Value ≡ true }
-    ensures cells { OnOk result (cells_of cells.new ≡ (does_row (facts_in facts.now) (AskRow (Put state (seen number.now))) (before (names_in names.now) (cells_of cells.old))).cells) }
-    ensures kinds { kinds_in cells.new ≡ kinds_in cells.old }
+    requires { has_kind (cell_kinds cells.old) state kind.Value ≡ true }
+    ensures cells { OnOk result (shown_cells cells.new ≡ (does_row (shown_run_facts facts.now) (Asks (Put state (shown_expr number.now))) (before (shown_locals names.now) (shown_cells cells.old))).cells) }
+    ensures kinds { cell_kinds cells.new ≡ cell_kinds cells.old }
 {
     let number = number.value(&scope_of(facts, names));
     match cells.apply(&Request::ValuePut { state, number }) {
@@ -237,14 +237,14 @@ fn run_set(
     facts: &RunFacts<'_>,
     timers: &mut Timers,
 ) -> Result<(), NoMemory>
-    ensures { OnOk result (PutsTimes timers.old timers.new key.now (insert_time (value (facts_in facts.now) (names_in names.now) (seen time.now)) (times_of timers.old key.now))) }
+    ensures { OnOk result (PutsTimes timers.old timers.new key.now (insert_time (value (shown_run_facts facts.now) (shown_locals names.now) (shown_expr time.now)) (times_of timers.old key.now))) }
 {
     timers.set(key, value_of(time, facts, names))
 }
 
 // A timer of the key is taken off.
 fn run_unset(names: &[i64], time: &Expr, key: &Key, facts: &RunFacts<'_>, timers: &mut Timers)
-    ensures { PutsTimes timers.old timers.new key.now (remove_time (value (facts_in facts.now) (names_in names.now) (seen time.now)) (times_of timers.old key.now)) }
+    ensures { PutsTimes timers.old timers.new key.now (remove_time (value (shown_run_facts facts.now) (shown_locals names.now) (shown_expr time.now)) (times_of timers.old key.now)) }
 {
     timers.unset(key, value_of(time, facts, names));
 }
@@ -259,11 +259,11 @@ fn run_stmt<K: Sink>(
     timers: &mut Timers,
     out: &mut K,
 ) -> Result<(), SinkFault>
-    requires { stmt_fits (length room.old.names.items) (kinds_in cells.old) stmt.now ≡ true }
-    ensures names { OnOk result (names_in room.new.names.items ≡ (did facts.now stmt.now room.old.names.items cells.old).talk.names) }
+    requires { stmt_fits (length room.old.names.items) (cell_kinds cells.old) stmt.now ≡ true }
+    ensures names { OnOk result (shown_locals room.new.names.items ≡ (did facts.now stmt.now room.old.names.items cells.old).talk.names) }
     ensures locals { length room.new.names.items ≡ length room.old.names.items }
-    ensures cells { OnOk result (cells_of cells.new ≡ (did facts.now stmt.now room.old.names.items cells.old).cells) }
-    ensures kinds { kinds_in cells.new ≡ kinds_in cells.old }
+    ensures cells { OnOk result (shown_cells cells.new ≡ (did facts.now stmt.now room.old.names.items cells.old).cells) }
+    ensures kinds { cell_kinds cells.new ≡ cell_kinds cells.old }
     ensures times { OnOk result (PutsTimes timers.old timers.new key.now (times_after (did facts.now stmt.now room.old.names.items cells.old).talk.ops (times_of timers.old key.now))) }
     ensures lines { OnOk result (Appends (K.holds out.old) (K.holds out.new) (text_of (says key.now (did facts.now stmt.now room.old.names.items cells.old).talk.lines))) }
     ensures part { OnErr result (AppendsSome (K.holds out.old) (K.holds out.new) (text_of (says key.now (did facts.now stmt.now room.old.names.items cells.old).talk.lines))) }
@@ -331,12 +331,12 @@ pub fn run_handler<K: Sink>(
     timers: &mut Timers,
     out: &mut K,
 ) -> Result<(), SinkFault>
-    requires { kinds_in cells.old ≡ lang.kinds_in program.now }
-    ensures kinds { kinds_in cells.new ≡ lang.kinds_in program.now }
-    ensures cells { OnOk result (cells_of cells.new ≡ (run_from program.now place facts.now (cells_of cells.old)).cells) }
-    ensures times { OnOk result (PutsTimes timers.old timers.new key.now (times_after (run_from program.now place facts.now (cells_of cells.old)).talk.ops (times_of timers.old key.now))) }
-    ensures lines { OnOk result (Appends (K.holds out.old) (K.holds out.new) (text_of (says key.now (run_from program.now place facts.now (cells_of cells.old)).talk.lines))) }
-    ensures part { OnErr result (AppendsSome (K.holds out.old) (K.holds out.new) (text_of (says key.now (run_from program.now place facts.now (cells_of cells.old)).talk.lines))) }
+    requires { cell_kinds cells.old ≡ lang.shown_kinds program.now }
+    ensures kinds { cell_kinds cells.new ≡ lang.shown_kinds program.now }
+    ensures cells { OnOk result (shown_cells cells.new ≡ (run_from program.now place facts.now (shown_cells cells.old)).cells) }
+    ensures times { OnOk result (PutsTimes timers.old timers.new key.now (times_after (run_from program.now place facts.now (shown_cells cells.old)).talk.ops (times_of timers.old key.now))) }
+    ensures lines { OnOk result (Appends (K.holds out.old) (K.holds out.new) (text_of (says key.now (run_from program.now place facts.now (shown_cells cells.old)).talk.lines))) }
+    ensures part { OnErr result (AppendsSome (K.holds out.old) (K.holds out.new) (text_of (says key.now (run_from program.now place facts.now (shown_cells cells.old)).talk.lines))) }
     ensures faults { K.faults out.old ≤ K.faults out.new }
     ensures short { K.short out.old ≤ K.short out.new }
     ensures cause { HasSinkCause (K.faults out.old) (K.faults out.new) result }

@@ -4,12 +4,12 @@ ghost use Rattle.std.specs.Io.KnownBytes.{Appends};
 ghost use Rattle.std.specs.BTreeMap.{get, keys};
 ghost use Rattle.std.specs.BTreeSet.{insert_key};
 ghost use Rattle.ax_keys.specs.Keys.{key_cmp};
-ghost use Rattle.ax_input.specs.Seen.{seen_event};
+ghost use Rattle.ax_input.specs.Shown.{shown_event};
 ghost use Rattle.ax_machine.specs.Entries.{text_of};
 ghost use Rattle.ax_machine.specs.Sync.{plain_start, plain_step, row_step, knows, silent};
-ghost use Rattle.ax_lang.specs.Shown.{shown, kinds_in};
-ghost use Rattle.ax_plain.specs.Handler.{facts_in, HasSinkCause, AppendsSome};
-ghost use Rattle.ax_plain.specs.Plain.{groups, plain_in, run_at, ThreadFits, IsAbsent};
+ghost use Rattle.ax_lang.specs.Shown.{shown_program, shown_kinds};
+ghost use Rattle.ax_plain.specs.Handler.{shown_run_facts, HasSinkCause, AppendsSome};
+ghost use Rattle.ax_plain.specs.Plain.{groups, shown_plain, run_at, ThreadFits, IsAbsent};
 
 use crate::handler::{Room, RunFacts, run_handler};
 use ax_base::{Duplicate, NoMemory, Sink, SinkFault};
@@ -37,7 +37,7 @@ pub struct PlainThread {
 
 // What the run of a handler knows.
 pub(crate) fn run_facts<'a>(time: &i64, wm: &i64, values: &'a [i64]) -> RunFacts<'a>
-    ensures { facts_in result ≡ record { time = time.now; wm = wm.now; values = values.now } }
+    ensures { shown_run_facts result ≡ record { time = time.now; wm = wm.now; values = values.now } }
 {
     RunFacts {
         time: *time,
@@ -49,8 +49,8 @@ pub(crate) fn run_facts<'a>(time: &i64, wm: &i64, values: &'a [i64]) -> RunFacts
 impl PlainThread {
     /// No key had a row yet. The room for the program's local names is taken here.
     pub fn new(alloc: Global, program: &Program) -> Result<PlainThread, NoMemory>
-        ensures fits { IfOk result (λ thread. ThreadFits (kinds_in program.now) thread) }
-        ensures start { IfOk result (λ thread. plain_in (kinds_in program.now) thread ≡ plain_start (shown program.now)) }
+        ensures fits { IfOk result (λ thread. ThreadFits (shown_kinds program.now) thread) }
+        ensures start { IfOk result (λ thread. shown_plain (shown_kinds program.now) thread ≡ plain_start (shown_program program.now)) }
     {
         Ok(PlainThread {
             alloc,
@@ -73,14 +73,14 @@ impl PlainThread {
         event: &Event,
         out: &mut K,
     ) -> Result<(), SinkFault>
-        requires { ThreadFits (kinds_in program.now) self.old }
-        ensures fits { OnOk result (ThreadFits (kinds_in program.now) self.new) }
-        ensures steps { OnOk result (plain_in (kinds_in program.now) self.new
-            ≡ silent (plain_step groups (shown program.now) (seen_event event.now) (plain_in (kinds_in program.now) self.old))) }
+        requires { ThreadFits (shown_kinds program.now) self.old }
+        ensures fits { OnOk result (ThreadFits (shown_kinds program.now) self.new) }
+        ensures steps { OnOk result (shown_plain (shown_kinds program.now) self.new
+            ≡ silent (plain_step groups (shown_program program.now) (shown_event event.now) (shown_plain (shown_kinds program.now) self.old))) }
         ensures lines { OnOk result (Appends (K.holds out.old) (K.holds out.new)
-            (text_of (plain_step groups (shown program.now) (seen_event event.now) (plain_in (kinds_in program.now) self.old)).entries)) }
+            (text_of (plain_step groups (shown_program program.now) (shown_event event.now) (shown_plain (shown_kinds program.now) self.old)).entries)) }
         ensures part { OnErr result (AppendsSome (K.holds out.old) (K.holds out.new)
-            (text_of (plain_step groups (shown program.now) (seen_event event.now) (plain_in (kinds_in program.now) self.old)).entries)) }
+            (text_of (plain_step groups (shown_program program.now) (shown_event event.now) (shown_plain (shown_kinds program.now) self.old)).entries)) }
         ensures faults { K.faults out.old ≤ K.faults out.new }
         ensures short { K.short out.old ≤ K.short out.new }
         ensures cause { HasSinkCause (K.faults out.old) (K.faults out.new) result }
@@ -107,14 +107,14 @@ impl PlainThread {
         values: &[i64],
         out: &mut K,
     ) -> Result<(), SinkFault>
-        requires { ThreadFits (kinds_in program.now) self.old }
-        ensures fits { OnOk result (ThreadFits (kinds_in program.now) self.new) }
-        ensures steps { OnOk result (plain_in (kinds_in program.now) self.new
-            ≡ silent (row_step (shown program.now) key.now time.now values.now (plain_in (kinds_in program.now) self.old))) }
+        requires { ThreadFits (shown_kinds program.now) self.old }
+        ensures fits { OnOk result (ThreadFits (shown_kinds program.now) self.new) }
+        ensures steps { OnOk result (shown_plain (shown_kinds program.now) self.new
+            ≡ silent (row_step (shown_program program.now) key.now time.now values.now (shown_plain (shown_kinds program.now) self.old))) }
         ensures lines { OnOk result (Appends (K.holds out.old) (K.holds out.new)
-            (text_of (row_step (shown program.now) key.now time.now values.now (plain_in (kinds_in program.now) self.old)).entries)) }
+            (text_of (row_step (shown_program program.now) key.now time.now values.now (shown_plain (shown_kinds program.now) self.old)).entries)) }
         ensures part { OnErr result (AppendsSome (K.holds out.old) (K.holds out.new)
-            (text_of (row_step (shown program.now) key.now time.now values.now (plain_in (kinds_in program.now) self.old)).entries)) }
+            (text_of (row_step (shown_program program.now) key.now time.now values.now (shown_plain (shown_kinds program.now) self.old)).entries)) }
         ensures faults { K.faults out.old ≤ K.faults out.new }
         ensures short { K.short out.old ≤ K.short out.new }
         ensures cause { HasSinkCause (K.faults out.old) (K.faults out.new) result }
@@ -132,10 +132,10 @@ impl PlainThread {
 
     // Holds a key of which nothing was held so far. After an error nothing has changed.
     fn hold(&mut self, program: &Program, key: &Key) -> Result<(), NoMemory>
-        requires fits { ThreadFits (kinds_in program.now) self.old }
+        requires fits { ThreadFits (shown_kinds program.now) self.old }
         requires absent { get key_cmp self.old.states key.now ≡ None }
-        ensures fits { OnOk result (ThreadFits (kinds_in program.now) self.new) }
-        ensures knows { OnOk result (plain_in (kinds_in program.now) self.new ≡ knows key.now (plain_in (kinds_in program.now) self.old)) }
+        ensures fits { OnOk result (ThreadFits (shown_kinds program.now) self.new) }
+        ensures knows { OnOk result (shown_plain (shown_kinds program.now) self.new ≡ knows key.now (shown_plain (shown_kinds program.now) self.old)) }
         ensures held { OnOk result (IsSome (get key_cmp self.new.states key.now)) }
     {
         let cells = KeyCells::new(self.alloc, program.decls())?;
@@ -156,17 +156,17 @@ impl PlainThread {
         facts: &RunFacts<'_>,
         out: &mut K,
     ) -> Result<bool, SinkFault>
-        requires { ThreadFits (kinds_in program.now) self.old }
-        ensures fits { OnOk result (ThreadFits (kinds_in program.now) self.new) }
-        ensures absent { IfOk result (λ held. held ≡ false → IsAbsent (kinds_in program.now) key.now self.old self.new (K.holds out.old) (K.holds out.new)) }
+        requires { ThreadFits (shown_kinds program.now) self.old }
+        ensures fits { OnOk result (ThreadFits (shown_kinds program.now) self.new) }
+        ensures absent { IfOk result (λ held. held ≡ false → IsAbsent (shown_kinds program.now) key.now self.old self.new (K.holds out.old) (K.holds out.new)) }
         ensures held { IfOk result (λ held. held ≡ true → insert_key key_cmp (keys self.old.states) key.now ≡ keys self.old.states) }
         ensures present { IfOk result (λ held. IsSome (get key_cmp self.old.states key.now) → held ≡ true) }
-        ensures steps { IfOk result (λ held. held ≡ true → plain_in (kinds_in program.now) self.new
-            ≡ silent (run_at program.now place facts.now key.now (plain_in (kinds_in program.now) self.old))) }
+        ensures steps { IfOk result (λ held. held ≡ true → shown_plain (shown_kinds program.now) self.new
+            ≡ silent (run_at program.now place facts.now key.now (shown_plain (shown_kinds program.now) self.old))) }
         ensures lines { IfOk result (λ held. held ≡ true → Appends (K.holds out.old) (K.holds out.new)
-            (text_of (run_at program.now place facts.now key.now (plain_in (kinds_in program.now) self.old)).entries)) }
+            (text_of (run_at program.now place facts.now key.now (shown_plain (shown_kinds program.now) self.old)).entries)) }
         ensures part { OnErr result (AppendsSome (K.holds out.old) (K.holds out.new)
-            (text_of (run_at program.now place facts.now key.now (plain_in (kinds_in program.now) self.old)).entries)) }
+            (text_of (run_at program.now place facts.now key.now (shown_plain (shown_kinds program.now) self.old)).entries)) }
         ensures faults { K.faults out.old ≤ K.faults out.new }
         ensures short { K.short out.old ≤ K.short out.new }
         ensures cause { HasSinkCause (K.faults out.old) (K.faults out.new) result }

@@ -11,7 +11,7 @@ use Rattle.ax_keys.specs.Keys.{key_cmp}
 use Rattle.ax_keys.specs.Groups.{group}
 use Rattle.ax_machine.specs.Entries.{Key}
 use Rattle.ax_machine.specs.Blocks.{Part, block_cmp, placed, placed_from}
-use Rattle.ax_snapshot.specs.Snaps.{part_in}
+use Rattle.ax_snapshot.specs.Snaps.{shown_part}
 use Rattle.ax_snapshot.specs.Places.{placing}
 use Rattle.ax_snapshot.specs.declared.place.Place.{Place}
 use Rattle.ax_snapshot.specs.declared.snapshot.KeySnap.{KeySnap}
@@ -61,17 +61,17 @@ placed_by Greater new old here es more inner h = ap (λ t. placing old ∷ t) h
 
 -- where each place has the group of its key, one more goes where the definitions put it
 pub placed_insert : (m : ℕ) (es : List Placing) (k : Place) (v : Bor KeySnap) → k.group ≡ group k.key.now m → HasGroups m es
-    → map placing (insert_entry place_cmp es k v) ≡ insert_entry (block_cmp m) (map placing es) k.key.now (part_in v.now)
+    → map placing (insert_entry place_cmp es k v) ≡ insert_entry (block_cmp m) (map placing es) k.key.now (shown_part v.now)
 placed_insert m [] k v own all = refl
 placed_insert m (e ∷ es) k v own all =
-    placed_by (place_cmp k e.0) (k, v) e (e.0, v) es (insert_entry place_cmp es k v) (insert_entry (block_cmp m) (map placing es) k.key.now (part_in v.now)) (placed_insert m es k v own all.1)
-    ∙ ap (λ o. match_ordering o ((k.key.now, part_in v.now) ∷ map placing (e ∷ es)) ((e.0.key.now, part_in v.now) ∷ map placing es) (placing e ∷ insert_entry (block_cmp m) (map placing es) k.key.now (part_in v.now))) (same_order m k e.0 own all.0)
+    placed_by (place_cmp k e.0) (k, v) e (e.0, v) es (insert_entry place_cmp es k v) (insert_entry (block_cmp m) (map placing es) k.key.now (shown_part v.now)) (placed_insert m es k v own all.1)
+    ∙ ap (λ o. match_ordering o ((k.key.now, shown_part v.now) ∷ map placing (e ∷ es)) ((e.0.key.now, shown_part v.now) ∷ map placing es) (placing e ∷ insert_entry (block_cmp m) (map placing es) k.key.now (shown_part v.now))) (same_order m k e.0 own all.0)
 
 -- the first i keys are placed
 pub record IsPlaced (m : ℕ) (keys : List KeySnap) (i : ℕ) (es : List Placing) : Type 0 where
   pub groups : HasGroups m es
   pub among : AllByRecursion (λ e. Contains keys e.1.now) es
-  pub places : placed_from m (map placing es) (map part_in (drop i keys)) ≡ placed m (map part_in keys)
+  pub places : placed_from m (map placing es) (map shown_part (drop i keys)) ≡ placed m (map shown_part keys)
 
 -- one key on
 pub placed_step : (m : ℕ) (keys : List KeySnap) (i : ℕ) (old new : List Placing) (k : Place) (v : Bor KeySnap)
@@ -81,15 +81,15 @@ placed_step m keys i old new k v own same within item made p =
     let All : List Placing → Type 0 = λ es. HasGroups m es in
     let Among : List Placing → Type 0 = λ es. AllByRecursion (λ e. Contains keys e.1.now) es in
     let new_entries = insert_entry place_cmp old k v in
-    let rest = map part_in (drop (i + 1) keys) in
-    let shown : map placing new ≡ insert_entry (block_cmp m) (map placing old) v.now.key (part_in v.now) =
-    ap (map placing) made ∙ placed_insert m old k v own p.groups ∙ ap (λ t. insert_entry (block_cmp m) (map placing old) t (part_in v.now)) same in
+    let rest = map shown_part (drop (i + 1) keys) in
+    let shown : map placing new ≡ insert_entry (block_cmp m) (map placing old) v.now.key (shown_part v.now) =
+    ap (map placing) made ∙ placed_insert m old k v own p.groups ∙ ap (λ t. insert_entry (block_cmp m) (map placing old) t (shown_part v.now)) same in
     record {
       groups = subst All (sym made) (all_insert place_cmp (HasGroup m) (λ e k v here new. here) old k v own p.groups);
       among = subst Among (sym made) (all_insert place_cmp (λ e. Contains keys e.1.now) (λ e k v here new. new) old k v (i, within, sym item) p.among);
       places =
           ap (λ es. placed_from m es rest) shown
-          ∙ ap (λ s. placed_from m (map placing old) (part_in s ∷ rest)) item
-          ∙ ap (λ ks. placed_from m (map placing old) (map part_in ks)) (sym (drop_more keys i v.now within))
+          ∙ ap (λ s. placed_from m (map placing old) (shown_part s ∷ rest)) item
+          ∙ ap (λ ks. placed_from m (map placing old) (map shown_part ks)) (sym (drop_more keys i v.now within))
           ∙ p.places;
     }

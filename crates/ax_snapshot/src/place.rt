@@ -4,8 +4,8 @@ ghost use Rattle.std.specs.List.{AllByRecursion, Contains};
 ghost use Rattle.std.specs.BTreeMap.{values};
 ghost use Rattle.ax_keys.specs.Groups.{IsMaximum};
 ghost use Rattle.ax_machine.specs.Blocks.{placed};
-ghost use Rattle.ax_snapshot.specs.Snaps.{part_in};
-ghost use Rattle.ax_snapshot.specs.Places.{placed_in};
+ghost use Rattle.ax_snapshot.specs.Snaps.{shown_part};
+ghost use Rattle.ax_snapshot.specs.Places.{shown_places};
 
 use crate::snapshot::KeySnap;
 use ax_base::NoMemory;
@@ -28,7 +28,7 @@ pub(crate) fn place_keys(
     m: u16,
 ) -> Result<BTreeMap<Place<'_>, &KeySnap>, NoMemory>
     requires { IsMaximum m }
-    ensures order { IfOk result (λ places. placed_in places ≡ placed m (map part_in keys.now)) }
+    ensures order { IfOk result (λ places. shown_places places ≡ placed m (map shown_part keys.now)) }
     ensures among { IfOk result (λ places. AllByRecursion (λ snap. Contains keys.now snap.now) (values places)) }
 {
     let mut places = BTreeMap::new(alloc);

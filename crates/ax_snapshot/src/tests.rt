@@ -2,7 +2,7 @@
 ghost use Rattle.std.specs.Prelude.{◌≡◌};
 ghost use Rattle.std.specs.List.{All};
 ghost use Rattle.ax_state.specs.Decls.{kinds};
-ghost use Rattle.ax_state.specs.KeyCells.{kinds_in};
+ghost use Rattle.ax_state.specs.KeyCells.{cell_kinds};
 
 use crate::snapshot::{KeySnap, KeySnaps, Snapshot};
 use crate::write::write_snapshot;
@@ -31,8 +31,8 @@ fn put_number(
     state: u8,
     number: Option<i64>,
 ) -> Result<(), NoMemory>
-    requires { kinds_in cells.old ≡ kinds decls.now }
-    ensures { kinds_in cells.new ≡ kinds_in cells.old }
+    requires { cell_kinds cells.old ≡ kinds decls.now }
+    ensures { cell_kinds cells.new ≡ cell_kinds cells.old }
 {
     let Some(number) = number else {
         return Ok(());
@@ -53,8 +53,8 @@ fn add_key(
     numbers: (Option<i64>, Option<i64>),
     times: &[i64],
 ) -> Result<(), NoMemory>
-    requires { All (λ k. kinds_in k.cells ≡ kinds decls.now) keys.old }
-    ensures { All (λ k. kinds_in k.cells ≡ kinds decls.now) keys.new }
+    requires { All (λ k. cell_kinds k.cells ≡ kinds decls.now) keys.old }
+    ensures { All (λ k. cell_kinds k.cells ≡ kinds decls.now) keys.new }
 {
     let mut cells = KeyCells::new(alloc, decls)?;
     put_number(decls, &mut cells, 0, numbers.0)?;
@@ -68,7 +68,7 @@ fn add_key(
 
 // The block of some keys, where there are few states.
 fn block(alloc: Global, keys: KeySnaps, wm: i64, decls: &Decls, m: u16) -> Result<Bytes, NoMemory>
-    requires { All (λ k. kinds_in k.cells ≡ kinds decls.now) keys }
+    requires { All (λ k. cell_kinds k.cells ≡ kinds decls.now) keys }
 {
     if decls.len() > 256 || m < 1 || m > 32768 {
         return Ok(Bytes::new(alloc));

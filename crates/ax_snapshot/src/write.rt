@@ -3,12 +3,12 @@ ghost use Rattle.std.specs.Prelude.{◌≡◌, ◌≤◌, length, map, IfOk, OnO
 ghost use Rattle.std.specs.List.{All, AllByRecursion};
 ghost use Rattle.std.specs.BTreeMap.{values};
 ghost use Rattle.ax_keys.specs.Groups.{IsMaximum};
-ghost use Rattle.ax_state.specs.Decls.{kinds, states_of};
-ghost use Rattle.ax_state.specs.KeyCells.{kinds_in};
+ghost use Rattle.ax_state.specs.Decls.{kinds, shown_states};
+ghost use Rattle.ax_state.specs.KeyCells.{cell_kinds};
 ghost use Rattle.ax_machine.specs.Blocks.{state_lines, timer_lines, part_lines, inner_lines, block_text};
-ghost use Rattle.ax_state.specs.KeyCells.{cells_of};
-ghost use Rattle.ax_snapshot.specs.Snaps.{part_in};
-ghost use Rattle.ax_snapshot.specs.Places.{placed_in};
+ghost use Rattle.ax_state.specs.KeyCells.{shown_cells};
+ghost use Rattle.ax_snapshot.specs.Snaps.{shown_part};
+ghost use Rattle.ax_snapshot.specs.Places.{shown_places};
 ghost use Rattle.ax_snapshot.specs.Added.{Adds};
 
 use crate::block::Block;
@@ -29,8 +29,8 @@ fn put_states(
     decls: &[Decl],
 ) -> Result<(), NoMemory>
     requires few { length decls.now ≤ 256 }
-    requires fits { kinds_in cells.now ≡ kinds decls.now }
-    ensures { OnOk result (Adds block.old block.new (state_lines key.now 0 (states_of decls.now) (cells_of cells.now))) }
+    requires fits { cell_kinds cells.now ≡ kinds decls.now }
+    ensures { OnOk result (Adds block.old block.new (state_lines key.now 0 (shown_states decls.now) (shown_cells cells.now))) }
 {
     for (state, decl) in decls.iter().enumerate() {
         block.put_value(alloc, key, &decl.name, cells.value(state as u8))?;
@@ -51,8 +51,8 @@ fn put_timers(alloc: Global, block: &mut Block, key: &Key, times: &[i64]) -> Res
 // Puts the lines of a key.
 fn put_key(alloc: Global, block: &mut Block, snap: &KeySnap, decls: &[Decl]) -> Result<(), NoMemory>
     requires few { length decls.now ≤ 256 }
-    requires fits { kinds_in snap.now.cells ≡ kinds decls.now }
-    ensures { OnOk result (Adds block.old block.new (part_lines (states_of decls.now) (part_in snap.now))) }
+    requires fits { cell_kinds snap.now.cells ≡ kinds decls.now }
+    ensures { OnOk result (Adds block.old block.new (part_lines (shown_states decls.now) (shown_part snap.now))) }
 {
     put_states(alloc, block, &snap.key, &snap.cells, decls)?;
     put_timers(alloc, block, &snap.key, snap.timers.as_slice())?;
@@ -67,8 +67,8 @@ fn put_keys(
     decls: &[Decl],
 ) -> Result<(), NoMemory>
     requires few { length decls.now ≤ 256 }
-    requires fits { AllByRecursion (λ snap. kinds_in snap.now.cells ≡ kinds decls.now) (values places.now) }
-    ensures { OnOk result (Adds block.old block.new (inner_lines (states_of decls.now) (placed_in places.now))) }
+    requires fits { AllByRecursion (λ snap. cell_kinds snap.now.cells ≡ kinds decls.now) (values places.now) }
+    ensures { OnOk result (Adds block.old block.new (inner_lines (shown_states decls.now) (shown_places places.now))) }
 {
     for snap in places.values() {
         put_key(alloc, block, snap, decls)?;
@@ -85,8 +85,8 @@ fn put_keys(
 pub fn write_snapshot(alloc: Global, s: &Snapshot, decls: &Decls, m: u16) -> Result<Bytes, NoMemory>
     requires groups { IsMaximum m }
     requires few { length decls.now ≤ 256 }
-    requires fits { All (λ k. kinds_in k.cells ≡ kinds decls.now) s.now.keys }
-    ensures { IfOk result (λ bytes. bytes ≡ block_text m (states_of decls.now) s.now.id s.now.wm (map part_in s.now.keys)) }
+    requires fits { All (λ k. cell_kinds k.cells ≡ kinds decls.now) s.now.keys }
+    ensures { IfOk result (λ bytes. bytes ≡ block_text m (shown_states decls.now) s.now.id s.now.wm (map shown_part s.now.keys)) }
 {
     let places = place_keys(alloc, s.keys.as_slice(), m)?;
     let mut block = Block::begin(alloc, s)?;

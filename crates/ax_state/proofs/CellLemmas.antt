@@ -15,21 +15,21 @@ use Rattle.ax_text.specs.Cells.{Cell, Value, kind_of, empty_cell, cells_after}
 use Rattle.ax_text.specs.Programs.{untouched, kinds_of}
 use Rattle.ax_state.specs.declared.decls.Decl.{Decl}
 use Rattle.ax_state.specs.declared.cells.Held.{Held}
-use Rattle.ax_state.specs.Held.{cell_held}
-use Rattle.ax_state.specs.Decls.{states_of, kinds}
+use Rattle.ax_state.specs.Held.{shown_cell}
+use Rattle.ax_state.specs.Decls.{shown_states, kinds}
 use Rattle.ax_state.specs.Fits.{same_kind, has_kind}
-use Rattle.ax_state.specs.KeyCells.{cells_of, kinds_in, IsEmptyCell}
+use Rattle.ax_state.specs.KeyCells.{shown_cells, cell_kinds, IsEmptyCell}
 
 -- what a request leaves, as one function where it agrees at each state
-pub cells_are : (r : Request) (old new : List Cell) → ((s : ℕ) → cells_of new s ≡ cells_after r (cells_of old) s) → cells_of new ≡ cells_after r (cells_of old)
+pub cells_are : (r : Request) (old new : List Cell) → ((s : ℕ) → shown_cells new s ≡ cells_after r (shown_cells old) s) → shown_cells new ≡ cells_after r (shown_cells old)
 cells_are r old new f = fun_ext f
 
 -- likewise for a key that was never touched
-pub cells_untouched : (ks : List Kind) (cells : List Cell) → ((s : ℕ) → cells_of cells s ≡ untouched ks s) → cells_of cells ≡ untouched ks
+pub cells_untouched : (ks : List Kind) (cells : List Cell) → ((s : ℕ) → shown_cells cells s ≡ untouched ks s) → shown_cells cells ≡ untouched ks
 cells_untouched ks cells f = fun_ext f
 
 -- the kinds of the declared states, as a program has them
-pub kinds_of-states : (decls : List Decl) → kinds_of (states_of decls) ≡ kinds decls
+pub kinds_of-states : (decls : List Decl) → kinds_of (shown_states decls) ≡ kinds decls
 kinds_of-states [] = refl
 kinds_of-states (d ∷ ds) = ap (λ ks. d.kind ∷ ks) (kinds_of-states ds)
 
@@ -39,52 +39,52 @@ kind_of-empty kind.Value = refl
 is_empty : (k : Kind) → IsEmptyCell (empty_cell k)
 is_empty kind.Value = refl
 
-pub kinds_in-empty : (ks : List Kind) → kinds_in (map empty_cell ks) ≡ ks
-kinds_in-empty [] = refl
-kinds_in-empty (k ∷ ks) = ap₂ (λ x xs. x ∷ xs) (kind_of-empty k) (kinds_in-empty ks)
+pub cell_kinds-empty : (ks : List Kind) → cell_kinds (map empty_cell ks) ≡ ks
+cell_kinds-empty [] = refl
+cell_kinds-empty (k ∷ ks) = ap₂ (λ x xs. x ∷ xs) (kind_of-empty k) (cell_kinds-empty ks)
 
 pub all_empty : (ks : List Kind) → All IsEmptyCell (map empty_cell ks)
 all_empty ks = All-map IsEmptyCell empty_cell ks (λ k d h. is_empty (get_or ks k d))
 
-pub cells_of-empty : (ks : List Kind) (s : ℕ) → cells_of (map empty_cell ks) s ≡ untouched ks s
-cells_of-empty ks s = get_or-map empty_cell ks s kind.Value
+pub shown_cells-empty : (ks : List Kind) (s : ℕ) → shown_cells (map empty_cell ks) s ≡ untouched ks s
+shown_cells-empty ks s = get_or-map empty_cell ks s kind.Value
 
 -- states that are all empty are those of a key that was never touched
-pub all_untouched : (cells : List Cell) → All IsEmptyCell cells → (s : ℕ) → cells_of cells s ≡ untouched (kinds_in cells) s
+pub all_untouched : (cells : List Cell) → All IsEmptyCell cells → (s : ℕ) → shown_cells cells s ≡ untouched (cell_kinds cells) s
 all_untouched cells a s = is_empty_at (cases_lt s (length cells)) ∙ ap empty_cell (sym (get_or-map kind_of cells s (Value None))) where
-  is_empty_at : (s < length cells) ⊎ (length cells ≤ s) → IsEmptyCell (cells_of cells s)
+  is_empty_at : (s < length cells) ⊎ (length cells ≤ s) → IsEmptyCell (shown_cells cells s)
   is_empty_at (inl h) = a s (Value None) h
   is_empty_at (inr h) = subst IsEmptyCell (sym (lemma.get_or_past cells s (Value None) h)) refl
 
 -- a state of some number and kind is there
-pub is_there : (cells : List Cell) (i : ℕ) (k : Kind) → has_kind (kinds_in cells) i k ≡ true → i < length cells
+pub is_there : (cells : List Cell) (i : ℕ) (k : Kind) → has_kind (cell_kinds cells) i k ≡ true → i < length cells
 is_there cells i k h =
-    omega (arith, length-map cells kind_of, ltb-true i (length (kinds_in cells)) (and_parts (nat_lt i (length (kinds_in cells))) (same_kind (get_or (kinds_in cells) i kind.Value) k) h).0)
+    omega (arith, length-map cells kind_of, ltb-true i (length (cell_kinds cells)) (and_parts (nat_lt i (length (cell_kinds cells))) (same_kind (get_or (cell_kinds cells) i kind.Value) k) h).0)
 
 -- another cell at one place
-pub cells_of-set : (cells : List Cell) (i : ℕ) (c : Cell) → i < length cells → (s : ℕ) → cells_of (slice_set cells i c) s ≡ upd (cells_of cells) i c s
-cells_of-set cells i c h s = by_place (nat_eq i s) refl where
+pub shown_cells-set : (cells : List Cell) (i : ℕ) (c : Cell) → i < length cells → (s : ℕ) → shown_cells (slice_set cells i c) s ≡ upd (shown_cells cells) i c s
+shown_cells-set cells i c h s = by_place (nat_eq i s) refl where
   by_place : (b : Bool) → nat_eq i s ≡ b → get_or (slice_set cells i c) s (Value None) ≡ cond b c (get_or cells s (Value None))
   by_place true e = ap (λ j. get_or (slice_set cells i c) j (Value None)) (sym (eqb-true i s e)) ∙ get_or-set_same cells i c (Value None) h
   by_place false e = get_or-set_other cells i s c (Value None) (λ f. eqb-false i s e (sym f))
 
 -- a cell of the same kind leaves the kinds
-pub kinds_in-set : (cells : List Cell) (i : ℕ) (c : Cell) → has_kind (kinds_in cells) i (kind_of c) ≡ true → kinds_in (slice_set cells i c) ≡ kinds_in cells
-kinds_in-set cells i c h =
-    let there = and_parts (nat_lt i (length (kinds_in cells))) (same_kind (get_or (kinds_in cells) i kind.Value) (kind_of c)) h in
-    map-set_same kind_of cells i c (Value None) (sym (same_is (get_or (kinds_in cells) i kind.Value) (kind_of c) there.1) ∙ get_or-map kind_of cells i (Value None)) where
+pub cell_kinds-set : (cells : List Cell) (i : ℕ) (c : Cell) → has_kind (cell_kinds cells) i (kind_of c) ≡ true → cell_kinds (slice_set cells i c) ≡ cell_kinds cells
+cell_kinds-set cells i c h =
+    let there = and_parts (nat_lt i (length (cell_kinds cells))) (same_kind (get_or (cell_kinds cells) i kind.Value) (kind_of c)) h in
+    map-set_same kind_of cells i c (Value None) (sym (same_is (get_or (cell_kinds cells) i kind.Value) (kind_of c) there.1) ∙ get_or-map kind_of cells i (Value None)) where
       same_is : (j k : Kind) → same_kind j k ≡ true → j ≡ k
       same_is kind.Value kind.Value h = refl
 
 -- what the code holds, with another state at one place
-pub set_held : (hs : List Held) (cells : List Cell) (i : ℕ) (h : Held) → map cell_held hs ≡ cells → map cell_held (slice_set hs i h) ≡ slice_set cells i (cell_held h)
-set_held hs cells i h e = map-set cell_held hs i h ∙ ap (λ xs. slice_set xs i (cell_held h)) e
+pub set_held : (hs : List Held) (cells : List Cell) (i : ℕ) (h : Held) → map shown_cell hs ≡ cells → map shown_cell (slice_set hs i h) ≡ slice_set cells i (shown_cell h)
+set_held hs cells i h e = map-set shown_cell hs i h ∙ ap (λ xs. slice_set xs i (shown_cell h)) e
 
 -- that all states are empty, of the cells and of what the code holds
-pub empty_held : (hs : List Held) (cells : List Cell) → map cell_held hs ≡ cells → All (λ h. IsEmptyCell (cell_held h)) hs → All IsEmptyCell cells
-empty_held hs cells e a = subst (All IsEmptyCell) e (All-map IsEmptyCell cell_held hs a)
+pub empty_held : (hs : List Held) (cells : List Cell) → map shown_cell hs ≡ cells → All (λ h. IsEmptyCell (shown_cell h)) hs → All IsEmptyCell cells
+empty_held hs cells e a = subst (All IsEmptyCell) e (All-map IsEmptyCell shown_cell hs a)
 
-pub held_empty : (hs : List Held) (cells : List Cell) → map cell_held hs ≡ cells → All IsEmptyCell cells → All (λ h. IsEmptyCell (cell_held h)) hs
+pub held_empty : (hs : List Held) (cells : List Cell) → map shown_cell hs ≡ cells → All IsEmptyCell cells → All (λ h. IsEmptyCell (shown_cell h)) hs
 held_empty hs cells e a k d h =
-    let all : All IsEmptyCell (map cell_held hs) = subst (All IsEmptyCell) (sym e) a in
-    subst IsEmptyCell (lemma.get_or-map cell_held hs k d (Value None) h) (all k (Value None) (omega (arith, length-map hs cell_held)))
+    let all : All IsEmptyCell (map shown_cell hs) = subst (All IsEmptyCell) (sym e) a in
+    subst IsEmptyCell (lemma.get_or-map shown_cell hs k d (Value None) h) (all k (Value None) (omega (arith, length-map hs shown_cell)))

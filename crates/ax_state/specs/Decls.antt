@@ -8,8 +8,8 @@ use Rattle.ax_state.specs.declared.decls.Decl.{Decl}
 abbrev pub state : Decl → State
 state d = record { name = d.name; kind = d.kind }
 
-abbrev pub states_of : List Decl → List State
-states_of decls = map state decls
+abbrev pub shown_states : List Decl → List State
+shown_states decls = map state decls
 
 -- the kinds of the declared states, in order
 abbrev pub kinds : List Decl → List Kind

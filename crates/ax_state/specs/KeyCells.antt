@@ -5,12 +5,12 @@ use Rattle.ax_text.specs.Functions.{at}
 use Rattle.ax_text.specs.Cells.{Cell, Value, Cells, kind_of, empty_cell}
 
 -- what each state holds, by its number; past the declared states there is nothing
-abbrev pub cells_of : List Cell → Cells
-cells_of cells = at cells (Value None)
+abbrev pub shown_cells : List Cell → Cells
+shown_cells cells = at cells (Value None)
 
 -- the kinds of the states, in order
-abbrev pub kinds_in : List Cell → List Kind
-kinds_in cells = map kind_of cells
+abbrev pub cell_kinds : List Cell → List Kind
+cell_kinds cells = map kind_of cells
 
 -- as it was before it was first touched
 abbrev pub IsEmptyCell : Cell → Type 0

@@ -6,8 +6,8 @@ ghost use Rattle.ax_text.specs.Cells.{Value, number_in, answer_of, cells_after, 
 ghost use Rattle.ax_text.specs.Programs.{untouched};
 ghost use Rattle.ax_state.specs.Decls.{kinds};
 ghost use Rattle.ax_state.specs.Fits.{has_kind, fits_in};
-ghost use Rattle.ax_state.specs.Held.{cell_held};
-ghost use Rattle.ax_state.specs.KeyCells.{IsEmptyCell, cells_of, kinds_in};
+ghost use Rattle.ax_state.specs.Held.{shown_cell};
+ghost use Rattle.ax_state.specs.KeyCells.{IsEmptyCell, shown_cells, cell_kinds};
 
 use crate::decls::{Decl, Decls};
 use ax_base::{Duplicate, NoMemory};
@@ -33,17 +33,17 @@ impl Model for KeyCells {
 
     ghost Value = { List Cell };
 
-    ghost use Rattle.ax_state.specs.Held.{cell_held};
+    ghost use Rattle.ax_state.specs.Held.{shown_cell};
 
-    ghost view = { λ c. map cell_held c.held.items };
+    ghost view = { λ c. map shown_cell c.held.items };
 }
 
 impl KeyCells {
     /// The states of a key that was never touched: all empty.
     pub fn new(alloc: Global, decls: &Decls) -> Result<KeyCells, NoMemory>
-        ensures kinds { IfOk result (λ cells. kinds_in cells ≡ kinds decls.now) }
+        ensures kinds { IfOk result (λ cells. cell_kinds cells ≡ kinds decls.now) }
         ensures empty { IfOk result (λ cells. All IsEmptyCell cells) }
-        ensures untouched { IfOk result (λ cells. (s : ℕ) → cells_of cells s ≡ untouched (kinds decls.now) s) }
+        ensures untouched { IfOk result (λ cells. (s : ℕ) → shown_cells cells s ≡ untouched (kinds decls.now) s) }
     {
         Ok(KeyCells {
             held: empty_states(alloc, decls.as_slice())?,
@@ -53,10 +53,10 @@ impl KeyCells {
     /// Serves one request. Condition: the state that it names exists, and is of the kind that serves it.
     /// At `NoMemory` nothing has changed.
     pub fn apply(&mut self, r: &Request) -> Result<Answer, NoMemory>
-        requires { fits_in (kinds_in self.old) r.now ≡ true }
-        ensures answer { IfOk result (λ answer. answer ≡ answer_of r.now (cells_of self.old)) }
-        ensures cells { OnOk result ((s : ℕ) → cells_of self.new s ≡ cells_after r.now (cells_of self.old) s) }
-        ensures kinds { kinds_in self.new ≡ kinds_in self.old }
+        requires { fits_in (cell_kinds self.old) r.now ≡ true }
+        ensures answer { IfOk result (λ answer. answer ≡ answer_of r.now (shown_cells self.old)) }
+        ensures cells { OnOk result ((s : ℕ) → shown_cells self.new s ≡ cells_after r.now (shown_cells self.old) s) }
+        ensures kinds { cell_kinds self.new ≡ cell_kinds self.old }
         ensures err { OnErr result (self.new ≡ self.old) }
     {
         match r {
@@ -73,8 +73,8 @@ impl KeyCells {
 
     /// The number that a state holds. Condition: the state exists, and holds one number or none.
     pub fn value(&self, state: u8) -> Option<i64>
-        requires { has_kind (kinds_in self.now) state kind.Value ≡ true }
-        ensures { result ≡ number_in (cells_of self.now state) }
+        requires { has_kind (cell_kinds self.now) state kind.Value ≡ true }
+        ensures { result ≡ number_in (shown_cells self.now state) }
     {
         match &self.held[state as usize] {
             Held::Value { number } => *number,
@@ -90,9 +90,9 @@ impl KeyCells {
 
     // Replaces what a state holds by something of the same kind.
     fn set(&mut self, state: u8, held: Held)
-        requires { has_kind (kinds_in self.old) state (kind_of (cell_held held)) ≡ true }
-        ensures cells { (s : ℕ) → cells_of self.new s ≡ upd (cells_of self.old) state (cell_held held) s }
-        ensures kinds { kinds_in self.new ≡ kinds_in self.old }
+        requires { has_kind (cell_kinds self.old) state (kind_of (shown_cell held)) ≡ true }
+        ensures cells { (s : ℕ) → shown_cells self.new s ≡ upd (shown_cells self.old) state (shown_cell held) s }
+        ensures kinds { cell_kinds self.new ≡ cell_kinds self.old }
     {
         self.held[state as usize] = held;
     }
@@ -108,7 +108,7 @@ impl Duplicate for KeyCells {
 
 // The declared states, all empty.
 fn empty_states(alloc: Global, decls: &[Decl]) -> Result<Vec<Held>, NoMemory>
-    ensures { IfOk result (λ held. map cell_held held.items ≡ map empty_cell (kinds decls.now)) }
+    ensures { IfOk result (λ held. map shown_cell held.items ≡ map empty_cell (kinds decls.now)) }
 {
     let mut held = Vec::new(alloc);
     for decl in decls {
@@ -121,7 +121,7 @@ fn empty_states(alloc: Global, decls: &[Decl]) -> Result<Vec<Held>, NoMemory>
 
 // Whether all states are empty.
 fn are_empty(held: &[Held]) -> bool
-    ensures { IsTrue result ↔ All (λ h. IsEmptyCell (cell_held h)) held.now }
+    ensures { IsTrue result ↔ All (λ h. IsEmptyCell (shown_cell h)) held.now }
 {
     held.iter().all(|h| h.is_empty())
 }
@@ -142,7 +142,7 @@ fn copy_states(alloc: Global, held: &[Held]) -> Result<Vec<Held>, NoMemory>
 impl Held {
     // An empty state of a kind.
     fn empty(kind: Kind) -> Held
-        ensures { cell_held result ≡ empty_cell kind }
+        ensures { shown_cell result ≡ empty_cell kind }
     {
         match kind {
             Kind::Value => Held::Value { number: None },
@@ -151,7 +151,7 @@ impl Held {
 
     // A state that holds one number.
     fn with_number(number: i64) -> Held
-        ensures { cell_held result ≡ Value (Some number) }
+        ensures { shown_cell result ≡ Value (Some number) }
     {
         Held::Value {
             number: Some(number),
@@ -160,7 +160,7 @@ impl Held {
 
     // Whether it is an empty state of its kind.
     fn is_empty(&self) -> bool
-        ensures { IsTrue result ↔ IsEmptyCell (cell_held self.now) }
+        ensures { IsTrue result ↔ IsEmptyCell (shown_cell self.now) }
     {
         match self {
             Held::Value { number } => number.is_none(),

@@ -1,7 +1,7 @@
 //! Requests of two states.
 ghost use Rattle.std.specs.Prelude.{◌≡◌};
 ghost use Rattle.ax_state.specs.Decls.{kinds};
-ghost use Rattle.ax_state.specs.KeyCells.{kinds_in};
+ghost use Rattle.ax_state.specs.KeyCells.{cell_kinds};
 
 use crate::cells::KeyCells;
 use crate::decls::{Decl, Decls, fits};
@@ -24,8 +24,8 @@ fn two_states(alloc: Global) -> Result<Decls, NoMemory> {
 
 // The answer, or None where it does not fit.
 fn answer(decls: &Decls, cells: &mut KeyCells, r: &Request) -> Result<Option<Answer>, NoMemory>
-    requires { kinds_in cells.old ≡ kinds decls.now }
-    ensures { kinds_in cells.new ≡ kinds_in cells.old }
+    requires { cell_kinds cells.old ≡ kinds decls.now }
+    ensures { cell_kinds cells.new ≡ cell_kinds cells.old }
 {
     if !fits(decls, r) {
         return Ok(None);
@@ -38,7 +38,7 @@ fn answer(decls: &Decls, cells: &mut KeyCells, r: &Request) -> Result<Option<Ans
 
 // The number of a state, or None where there is none.
 fn number(decls: &Decls, cells: &KeyCells, state: u8) -> Option<i64>
-    requires { kinds_in cells.now ≡ kinds decls.now }
+    requires { cell_kinds cells.now ≡ kinds decls.now }
 {
     if fits(decls, &Request::ValueGet { state }) {
         cells.value(state)

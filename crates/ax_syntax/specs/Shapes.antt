@@ -198,31 +198,31 @@ shape_of [] = None
 shape_of (w ∷ ws) = shape_by (keyword_of w) w ws
 
 -- what the code holds
-abbrev pub seen : CodeShape → Shape
-seen (code.Input fields) = Input fields
-seen (code.State name kind) = State name.now kind
-seen code.OnRow = OnRow
-seen code.OnTimer = OnTimer
-seen code.End = End
-seen (code.Let name value) = Let name.now value.now
-seen (code.Get name state missing) = Get name.now state.now missing.now
-seen (code.GetAt name state at missing) = GetAt name.now state.now at.now missing.now
-seen (code.Has name state at) = Has name.now state.now at.now
-seen (code.Empty name state) = Empty name.now state.now
-seen (code.Put state values) = Put state.now values.now
-seen (code.Add state value) = Add state.now value.now
-seen (code.Remove state at) = Remove state.now at.now
-seen (code.Clear state) = Clear state.now
-seen (code.If test) = If test.now
-seen code.Else = Else
-seen (code.Each name state) = Each name.now state.now
-seen (code.EachPair key number state) = EachPair key.now number.now state.now
-seen code.Both = Both
-seen code.With = With
-seen (code.Emit values) = Emit values.now
-seen (code.Timer time) = Timer time.now
-seen (code.Untimer time) = Untimer time.now
+abbrev pub shown_shape : CodeShape → Shape
+shown_shape (code.Input fields) = Input fields
+shown_shape (code.State name kind) = State name.now kind
+shown_shape code.OnRow = OnRow
+shown_shape code.OnTimer = OnTimer
+shown_shape code.End = End
+shown_shape (code.Let name value) = Let name.now value.now
+shown_shape (code.Get name state missing) = Get name.now state.now missing.now
+shown_shape (code.GetAt name state at missing) = GetAt name.now state.now at.now missing.now
+shown_shape (code.Has name state at) = Has name.now state.now at.now
+shown_shape (code.Empty name state) = Empty name.now state.now
+shown_shape (code.Put state values) = Put state.now values.now
+shown_shape (code.Add state value) = Add state.now value.now
+shown_shape (code.Remove state at) = Remove state.now at.now
+shown_shape (code.Clear state) = Clear state.now
+shown_shape (code.If test) = If test.now
+shown_shape code.Else = Else
+shown_shape (code.Each name state) = Each name.now state.now
+shown_shape (code.EachPair key number state) = EachPair key.now number.now state.now
+shown_shape code.Both = Both
+shown_shape code.With = With
+shown_shape (code.Emit values) = Emit values.now
+shown_shape (code.Timer time) = Timer time.now
+shown_shape (code.Untimer time) = Untimer time.now
 
-abbrev pub seen_some : Option CodeShape → Option Shape
-seen_some None = None
-seen_some (Some s) = Some (seen s)
+abbrev pub shape_some : Option CodeShape → Option Shape
+shape_some None = None
+shape_some (Some s) = Some (shown_shape s)

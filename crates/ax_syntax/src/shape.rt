@@ -1,7 +1,7 @@
 //! The shapes of lines.
 ghost use Rattle.std.specs.Prelude.{◌≡◌, ◌<◌, ◌∷◌, [], length, MatchOption};
 ghost use Rattle.ax_syntax.specs.Words.{keyword_of};
-ghost use Rattle.ax_syntax.specs.Shapes.{is_expr, is_exprs, parts_of, is_or, is_in, is_equals, kind_word, seen, seen_some, input_of, state_of, on_of, let_of, before_or, behind_or, get_by, get_of, has_of, empty_of, assigned_by, assign_of, put_of, add_of, remove_of, clear_of, each_of, alone, when, shape_of, If as IfShape, Emit as EmitShape, Timer as TimerShape, Untimer as UntimerShape};
+ghost use Rattle.ax_syntax.specs.Shapes.{is_expr, is_exprs, parts_of, is_or, is_in, is_equals, kind_word, shown_shape, shape_some, input_of, state_of, on_of, let_of, before_or, behind_or, get_by, get_of, has_of, empty_of, assigned_by, assign_of, put_of, add_of, remove_of, clear_of, each_of, alone, when, shape_of, If as IfShape, Emit as EmitShape, Timer as TimerShape, Untimer as UntimerShape};
 
 use crate::words::{Keyword, is_name, is_operand, keyword_of, same, sign_of};
 use ax_base::{Bytes, read_i64};
@@ -149,7 +149,7 @@ fn around_or(words: &[Bytes]) -> (&[Bytes], &[Bytes])
 }
 
 fn input_of(rest: &[Bytes]) -> Option<Shape<'_>>
-    ensures { seen_some result ≡ input_of rest.now }
+    ensures { shape_some result ≡ input_of rest.now }
 {
     let [n] = rest else {
         return None;
@@ -163,7 +163,7 @@ fn input_of(rest: &[Bytes]) -> Option<Shape<'_>>
 }
 
 fn state_of(rest: &[Bytes]) -> Option<Shape<'_>>
-    ensures { seen_some result ≡ state_of rest.now }
+    ensures { shape_some result ≡ state_of rest.now }
 {
     let [name, kind] = rest else {
         return None;
@@ -177,7 +177,7 @@ fn state_of(rest: &[Bytes]) -> Option<Shape<'_>>
 }
 
 fn on_of(rest: &[Bytes]) -> Option<Shape<'_>>
-    ensures { seen_some result ≡ on_of rest.now }
+    ensures { shape_some result ≡ on_of rest.now }
 {
     let [word] = rest else {
         return None;
@@ -190,7 +190,7 @@ fn on_of(rest: &[Bytes]) -> Option<Shape<'_>>
 }
 
 fn let_of(rest: &[Bytes]) -> Option<Shape<'_>>
-    ensures { seen_some result ≡ let_of rest.now }
+    ensures { shape_some result ≡ let_of rest.now }
 {
     match rest {
         [name, eq, value @ ..] => {
@@ -210,7 +210,7 @@ fn get_by<'a>(
     at: &'a [Bytes],
     missing: &'a [Bytes],
 ) -> Option<Shape<'a>>
-    ensures { seen_some result ≡ get_by name.now state.now at.now missing.now }
+    ensures { shape_some result ≡ get_by name.now state.now at.now missing.now }
 {
     if !is_expr(missing) {
         return None;
@@ -225,7 +225,7 @@ fn get_by<'a>(
 }
 
 fn get_of<'a>(name: &'a Bytes, rest: &'a [Bytes]) -> Option<Shape<'a>>
-    ensures { seen_some result ≡ get_of name.now rest.now }
+    ensures { shape_some result ≡ get_of name.now rest.now }
 {
     let [state, rest @ ..] = rest else {
         return None;
@@ -238,7 +238,7 @@ fn get_of<'a>(name: &'a Bytes, rest: &'a [Bytes]) -> Option<Shape<'a>>
 }
 
 fn has_of<'a>(name: &'a Bytes, rest: &'a [Bytes]) -> Option<Shape<'a>>
-    ensures { seen_some result ≡ has_of name.now rest.now }
+    ensures { shape_some result ≡ has_of name.now rest.now }
 {
     match rest {
         [state, at @ ..] => {
@@ -253,7 +253,7 @@ fn has_of<'a>(name: &'a Bytes, rest: &'a [Bytes]) -> Option<Shape<'a>>
 }
 
 fn empty_of<'a>(name: &'a Bytes, rest: &'a [Bytes]) -> Option<Shape<'a>>
-    ensures { seen_some result ≡ empty_of name.now rest.now }
+    ensures { shape_some result ≡ empty_of name.now rest.now }
 {
     match rest {
         [state] => {
@@ -268,7 +268,7 @@ fn empty_of<'a>(name: &'a Bytes, rest: &'a [Bytes]) -> Option<Shape<'a>>
 }
 
 fn assigned_by<'a>(verb: &[u8], name: &'a Bytes, rest: &'a [Bytes]) -> Option<Shape<'a>>
-    ensures { seen_some result ≡ assigned_by (keyword_of verb.now) name.now rest.now }
+    ensures { shape_some result ≡ assigned_by (keyword_of verb.now) name.now rest.now }
 {
     match keyword_of(verb) {
         Some(Keyword::Get) => get_of(name, rest),
@@ -279,7 +279,7 @@ fn assigned_by<'a>(verb: &[u8], name: &'a Bytes, rest: &'a [Bytes]) -> Option<Sh
 }
 
 fn assign_of<'a>(name: &'a Bytes, rest: &'a [Bytes]) -> Option<Shape<'a>>
-    ensures { seen_some result ≡ assign_of name.now rest.now }
+    ensures { shape_some result ≡ assign_of name.now rest.now }
 {
     match rest {
         [eq, verb, rest @ ..] => {
@@ -294,7 +294,7 @@ fn assign_of<'a>(name: &'a Bytes, rest: &'a [Bytes]) -> Option<Shape<'a>>
 }
 
 fn put_of(rest: &[Bytes]) -> Option<Shape<'_>>
-    ensures { seen_some result ≡ put_of rest.now }
+    ensures { shape_some result ≡ put_of rest.now }
 {
     match rest {
         [state, values @ ..] => {
@@ -309,7 +309,7 @@ fn put_of(rest: &[Bytes]) -> Option<Shape<'_>>
 }
 
 fn add_of(rest: &[Bytes]) -> Option<Shape<'_>>
-    ensures { seen_some result ≡ add_of rest.now }
+    ensures { shape_some result ≡ add_of rest.now }
 {
     match rest {
         [state, value @ ..] => {
@@ -324,7 +324,7 @@ fn add_of(rest: &[Bytes]) -> Option<Shape<'_>>
 }
 
 fn remove_of(rest: &[Bytes]) -> Option<Shape<'_>>
-    ensures { seen_some result ≡ remove_of rest.now }
+    ensures { shape_some result ≡ remove_of rest.now }
 {
     match rest {
         [state, at @ ..] => {
@@ -339,7 +339,7 @@ fn remove_of(rest: &[Bytes]) -> Option<Shape<'_>>
 }
 
 fn clear_of(rest: &[Bytes]) -> Option<Shape<'_>>
-    ensures { seen_some result ≡ clear_of rest.now }
+    ensures { shape_some result ≡ clear_of rest.now }
 {
     match rest {
         [state] => {
@@ -354,7 +354,7 @@ fn clear_of(rest: &[Bytes]) -> Option<Shape<'_>>
 }
 
 fn each_of(rest: &[Bytes]) -> Option<Shape<'_>>
-    ensures { seen_some result ≡ each_of rest.now }
+    ensures { shape_some result ≡ each_of rest.now }
 {
     match rest {
         [name, word, state] => {
@@ -380,13 +380,13 @@ fn each_of(rest: &[Bytes]) -> Option<Shape<'_>>
 }
 
 fn alone<'a>(shape: Shape<'a>, rest: &'a [Bytes]) -> Option<Shape<'a>>
-    ensures { seen_some result ≡ alone (seen shape.entry) rest.now }
+    ensures { shape_some result ≡ alone (shown_shape shape.entry) rest.now }
 {
     if rest.is_empty() { Some(shape) } else { None }
 }
 
 fn emit_of(rest: &[Bytes]) -> Option<Shape<'_>>
-    ensures { seen_some result ≡ when (is_exprs rest.now) (EmitShape rest.now) }
+    ensures { shape_some result ≡ when (is_exprs rest.now) (EmitShape rest.now) }
 {
     if is_exprs(rest) {
         Some(Shape::Emit(rest))
@@ -396,7 +396,7 @@ fn emit_of(rest: &[Bytes]) -> Option<Shape<'_>>
 }
 
 fn if_of(rest: &[Bytes]) -> Option<Shape<'_>>
-    ensures { seen_some result ≡ when (is_expr rest.now) (IfShape rest.now) }
+    ensures { shape_some result ≡ when (is_expr rest.now) (IfShape rest.now) }
 {
     if is_expr(rest) {
         Some(Shape::If(rest))
@@ -406,7 +406,7 @@ fn if_of(rest: &[Bytes]) -> Option<Shape<'_>>
 }
 
 fn timer_of(rest: &[Bytes]) -> Option<Shape<'_>>
-    ensures { seen_some result ≡ when (is_expr rest.now) (TimerShape rest.now) }
+    ensures { shape_some result ≡ when (is_expr rest.now) (TimerShape rest.now) }
 {
     if is_expr(rest) {
         Some(Shape::Timer(rest))
@@ -416,7 +416,7 @@ fn timer_of(rest: &[Bytes]) -> Option<Shape<'_>>
 }
 
 fn untimer_of(rest: &[Bytes]) -> Option<Shape<'_>>
-    ensures { seen_some result ≡ when (is_expr rest.now) (UntimerShape rest.now) }
+    ensures { shape_some result ≡ when (is_expr rest.now) (UntimerShape rest.now) }
 {
     if is_expr(rest) {
         Some(Shape::Untimer(rest))
@@ -428,7 +428,7 @@ fn untimer_of(rest: &[Bytes]) -> Option<Shape<'_>>
 /// The shape of a line of these words; a line that has none is refused.
 #[tactic(auto, unfolding(crate::specs::Shapes::shape_of))]
 pub fn shape_of(words: &[Bytes]) -> Option<Shape<'_>>
-    ensures { seen_some result ≡ shape_of words.now }
+    ensures { shape_some result ≡ shape_of words.now }
 {
     let [word, rest @ ..] = words else {
         return None;

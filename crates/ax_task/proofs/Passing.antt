@@ -11,7 +11,7 @@ use Rattle.ax_base.specs.declared.lines.Line.{Line}
 use Rattle.ax_base.specs.declared.lines.LineFault.TheVariants as fault
 use Rattle.ax_base.proofs.OutsideLemmas.{Told-trans, Told-map}
 use Rattle.ax_input.specs.Events.{EventRead, Good, event_of, is_skipped}
-use Rattle.ax_input.specs.Seen.{seen_event}
+use Rattle.ax_input.specs.Shown.{shown_event}
 use Rattle.ax_input.specs.declared.event.Event.{Event as CodeEvent}
 use Rattle.ax_task.specs.Parse.{Stream, with_event, event_or_fault, in_order, last_after, stream_of}
 use Rattle.ax_task.specs.Sections.{Section, Gathered, section_of, is_section_end, most_kept}
@@ -73,23 +73,23 @@ next_skips fields last l l' old new line r e n =
 
 -- a line with an event
 next_takes : (fields fields' : ℕ) (last last' : ℤ) (l l' : Option (List ℕ)) (old new : Reader) (line : Line) (e : CodeEvent) → ReadsMore l l' old new (Ok (Some line)) → is_skipped line.text ≡ false
-    → new.number ≡ old.number + 1 → in_order last (event_of fields line.text) ≡ Good (seen_event e) → fields' ≡ fields → last' ≡ last_after (seen_event e) last
-    → Told l l' (λ a b. Goes (events_at fields last old) (λ x. with_event (seen_event e) (events_at fields' last' new x)) old.held a new.held b)
+    → new.number ≡ old.number + 1 → in_order last (event_of fields line.text) ≡ Good (shown_event e) → fields' ≡ fields → last' ≡ last_after (shown_event e) last
+    → Told l l' (λ a b. Goes (events_at fields last old) (λ x. with_event (shown_event e) (events_at fields' last' new x)) old.held a new.held b)
 next_takes fields fields' last last' l l' old new line e r s n good same now =
-    line_goes (stream_of fields last (old.number + 1)) (λ x. with_event (seen_event e) (events_at fields' last' new x)) l l' old new line r
-    (λ x. taken fields last (old.number + 1) line.text (pieces_of new.limit x) (Good (seen_event e)) s good
-    ∙ ap (λ k. with_event (seen_event e) (stream_of fields (last_after (seen_event e) last) (k + 1) (pieces_of new.limit x))) (sym n)
-    ∙ ap (λ v. with_event (seen_event e) (stream_of fields v (new.number + 1) (pieces_of new.limit x))) (sym now)
-    ∙ ap (λ f. with_event (seen_event e) (stream_of f last' (new.number + 1) (pieces_of new.limit x))) (sym same))
+    line_goes (stream_of fields last (old.number + 1)) (λ x. with_event (shown_event e) (events_at fields' last' new x)) l l' old new line r
+    (λ x. taken fields last (old.number + 1) line.text (pieces_of new.limit x) (Good (shown_event e)) s good
+    ∙ ap (λ k. with_event (shown_event e) (stream_of fields (last_after (shown_event e) last) (k + 1) (pieces_of new.limit x))) (sym n)
+    ∙ ap (λ v. with_event (shown_event e) (stream_of fields v (new.number + 1) (pieces_of new.limit x))) (sym now)
+    ∙ ap (λ f. with_event (shown_event e) (stream_of f last' (new.number + 1) (pieces_of new.limit x))) (sym same))
 
 -- the next event was read
 pub next_event_passes : (fields fields' : ℕ) (last last' : ℤ) (F : List ℕ → Stream) (held0 : List ℕ) (l0 l l' : Option (List ℕ)) (old new : Reader) (line : Line) (e : CodeEvent)
     → Told l0 l (λ a b. Goes F (events_at fields last old) held0 a old.held b)
-    → ReadsMore l l' old new (Ok (Some line)) → is_skipped line.text ≡ false → new.number ≡ old.number + 1 → in_order last (event_of fields line.text) ≡ Good (seen_event e)
-    → fields' ≡ fields → last' ≡ last_after (seen_event e) last
+    → ReadsMore l l' old new (Ok (Some line)) → is_skipped line.text ≡ false → new.number ≡ old.number + 1 → in_order last (event_of fields line.text) ≡ Good (shown_event e)
+    → fields' ≡ fields → last' ≡ last_after (shown_event e) last
     → Told l0 l' (λ a b. NextPasses F (events_at fields' last' new) held0 new.held a b (Ok (Some e)))
 next_event_passes fields fields' last last' F held0 l0 l l' old new line e x r s n good same now =
-    goes_on F (events_at fields last old) (λ y. with_event (seen_event e) (events_at fields' last' new y)) l0 l l' held0 old.held new.held x
+    goes_on F (events_at fields last old) (λ y. with_event (shown_event e) (events_at fields' last' new y)) l0 l l' held0 old.held new.held x
     (next_takes fields fields' last last' l l' old new line e r s n good same now)
 
 module _ (F G H : List ℕ → Stream) (held0 held held' : List ℕ) (l0 l l' : Option (List ℕ)) where

@@ -18,7 +18,7 @@ use Rattle.ax_machine.proofs.StepLemmas.{steps_behind, steps_append}
 use Rattle.ax_lang.specs.declared.program.Program.{Program as CodeProgram}
 use Rattle.ax_lang.specs.declared.reader.SectionEnd.{SectionEnd}
 use Rattle.ax_lang.specs.Programs.{Reading, Faulty, Accepted, or_fault, fault_in, shape_in, tables_of, rows_of, is_whole, program_in, ended, read_from, program_of, IsProgram}
-use Rattle.ax_lang.specs.Shown.{shown}
+use Rattle.ax_lang.specs.Shown.{shown_program}
 use Rattle.ax_task.specs.Sections as section
 use Rattle.ax_task.specs.Sections.{Section, Gathered, section_of}
 use Rattle.ax_task.specs.Parse.{Stream, Clean, ends, Parsed, BadProgram, Runs, of_reading, of_section, behind, first_last, most_bytes, parse}
@@ -138,10 +138,10 @@ accepted_found lines e p h = by_found e.found refl where
   by_found false f = absurd (by_reading (program_of lines e) (unfinished lines e f) h)
 
 program_passed : (r : Reader) (g : CodeGathered) (p : CodeProgram) (a b : List ℕ) (s : SectionPasses fresh r a b (Ok g)) → IsProgram (program_of g.lines g.end) p → behind g.end.line g.end.found ≡ r.number + 1
-    → Passed parse (λ x. Runs (shown p) (events_at (shown p).fields first_last r x)) [] a s.0 r.held b
+    → Passed parse (λ x. Runs (shown_program p) (events_at (shown_program p).fields first_last r x)) [] a s.0 r.held b
 program_passed r g p a b s is follows =
     let found : g.end.found ≡ true = accepted_found g.lines g.end p is in
-    Passed-as parse (λ x. of_section (Gathered g.lines g.end.line true (pieces_of r.limit x))) (λ x. Runs (shown p) (events_at (shown p).fields first_last r x)) [] a s.0 r.held b
+    Passed-as parse (λ x. of_section (Gathered g.lines g.end.line true (pieces_of r.limit x))) (λ x. Runs (shown_program p) (events_at (shown_program p).fields first_last r x)) [] a s.0 r.held b
     (Passed-map of_section (section_at 0 fresh) (λ x. Gathered g.lines g.end.line true (pieces_of r.limit x)) [] a s.0 r.held b (s.2 found))
     (λ x. parsed (Gathered g.lines g.end.line true (pieces_of r.limit x)) g.lines g.end (pieces_of r.limit x) p (r.number + 1)
     (ap (λ t. Gathered g.lines g.end.line t (pieces_of r.limit x)) (sym found)) is follows)
@@ -185,10 +185,10 @@ events_stop p F held a w b c h0 h1 (end.Program line kind) s t = tt
 -- a whole run
 pub stop_events : (l0 l1 l2 h0 h1 : Option (List ℕ)) (r r' : Reader) (g : CodeGathered) (p : CodeProgram) (e : End) → r ≡ fresh
     → Told l0 l1 (λ a b. SectionPasses r r' a b (Ok g)) → IsProgram (program_of g.lines g.end) p → behind g.end.line g.end.found ≡ r'.number + 1
-    → Told l1 l2 (λ a b. EventsStop (shown p) (events_at (shown p).fields first_last r') r'.held a b h0 h1 e)
+    → Told l1 l2 (λ a b. EventsStop (shown_program p) (events_at (shown_program p).fields first_last r') r'.held a b h0 h1 e)
     → Told l0 l2 (λ a b. Stops a b h0 h1 e)
 stop_events l0 l1 l2 h0 h1 r r' g p e is x reads follows y =
     Told-trans l0 l1 l2 x y (λ a b c s t.
     let P : Reader → Type 0 = λ q. SectionPasses q r' a b (Ok g) in
     let passes : SectionPasses fresh r' a b (Ok g) = subst P is s in
-    events_stop (shown p) (events_at (shown p).fields first_last r') r'.held a passes.0 b c h0 h1 e (program_passed r' g p a b passes reads follows) t)
+    events_stop (shown_program p) (events_at (shown_program p).fields first_last r') r'.held a passes.0 b c h0 h1 e (program_passed r' g p a b passes reads follows) t)

@@ -8,7 +8,7 @@ use Rattle.ax_text.specs.Programs.{Program}
 use Rattle.ax_machine.specs.Entries.{text_of}
 use Rattle.ax_machine.specs.Events.{Event}
 use Rattle.ax_machine.specs.Sync.{sync}
-use Rattle.ax_input.specs.Seen.{seen_event}
+use Rattle.ax_input.specs.Shown.{shown_event}
 use Rattle.ax_input.specs.declared.event.Event.{Event as CodeEvent}
 use Rattle.ax_task.specs.Sections.{Section, section_of}
 use Rattle.ax_task.specs.Sections as section
@@ -45,7 +45,7 @@ section_at kept r bytes = section_of (r.number + 1) kept (pieces_of r.limit byte
 -- what the reader of events has passed of the bytes that it held or that were to come; `F` is what bytes meant to it before, and `G` what
 -- they mean now
 abbrev pub NextPasses : (List ℕ → Stream) → (List ℕ → Stream) → List ℕ → List ℕ → List ℕ → List ℕ → Result (Option CodeEvent) End → Type 0
-NextPasses F G held held' left left' (Ok (Some e)) = (w : List ℕ) × Passed F (λ x. with_event (seen_event e) (G x)) held left w held' left'
+NextPasses F G held held' left left' (Ok (Some e)) = (w : List ℕ) × Passed F (λ x. with_event (shown_event e) (G x)) held left w held' left'
 NextPasses F G held held' left left' (Ok None) = Unit {0}
 NextPasses F G held held' left left' (Err end.Read) = (w : List ℕ) × Passed F G held left w held' left' × (no_feed held' ≡ true)
 NextPasses F G held held' left left' (Err end.NoMemory) = (H : List ℕ → Stream) × (w rest : List ℕ) × Passed F H held left w rest left'

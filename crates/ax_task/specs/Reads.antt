@@ -9,7 +9,7 @@ use Rattle.ax_input.specs.Events.{EventRead, Good, Bad}
 use Rattle.ax_task.specs.Sections.{Section, most_kept}
 use Rattle.ax_task.specs.Sections as section
 use Rattle.ax_task.specs.Parse.{Stream, Clean, Fault, ends, with_event}
-use Rattle.ax_input.specs.Seen.{seen_event}
+use Rattle.ax_input.specs.Shown.{shown_event}
 use Rattle.ax_task.specs.declared.end.End.{End}
 use Rattle.ax_task.specs.declared.end.End.TheVariants as end
 use Rattle.ax_input.specs.declared.event.Event.{Event}
@@ -35,7 +35,7 @@ IsFaultAt line f e = e ≡ input_end line (kind_number f)
 
 -- the event of a line with this number, or the end that its fault is
 abbrev pub ReadsLine : EventRead → ℕ → Result Event End → Type 0
-ReadsLine r n (Ok e) = r ≡ Good (seen_event e)
+ReadsLine r n (Ok e) = r ≡ Good (shown_event e)
 ReadsLine r n (Err (end.Input line kind)) = (line ≡ n) × (r ≡ Bad kind)
 ReadsLine r n (Err end.NoMemory) = Unit {0}
 ReadsLine r n (Err end.Ok) = ⊥
@@ -65,7 +65,7 @@ SectionOf whole rest (Err end.Write) = ⊥
 
 -- the first event and those behind it, or how the events end; `left` is what the source still has
 abbrev pub NextOf : Stream → Stream → List ℕ → Result (Option Event) End → Type 0
-NextOf whole rest left (Ok (Some e)) = whole ≡ with_event (seen_event e) rest
+NextOf whole rest left (Ok (Some e)) = whole ≡ with_event (shown_event e) rest
 NextOf whole rest left (Ok None) = (whole ≡ ends Clean) × (left ≡ [])
 NextOf whole rest left (Err (end.Input line kind)) = whole ≡ ends (Fault line kind)
 NextOf whole rest left (Err end.Read) = whole ≡ rest

@@ -3,7 +3,7 @@ ghost use Rattle.std.specs.Prelude.{◌≡◌, ◌+◌, ◌≤◌, ◌<◌, ◌^
 ghost use Rattle.ax_base.specs.Outside.{Told};
 ghost use Rattle.ax_base.specs.Given.{ahead};
 ghost use Rattle.ax_input.specs.Events.{event_of};
-ghost use Rattle.ax_input.specs.Seen.{seen_event};
+ghost use Rattle.ax_input.specs.Shown.{shown_event};
 ghost use Rattle.ax_task.specs.Parse.{stream_of, in_order, is_late, last_after, first_last};
 ghost use Rattle.ax_task.specs.Reads.{NextOf, ReadCause, kind_number, IsFaultAt, ReadsLine};
 ghost use Rattle.ax_task.specs.Passes.{events_at, NextPasses};
@@ -69,7 +69,7 @@ impl EventReader {
 
     // Whether the event is a barrier whose ID isn't greater than each before it.
     fn is_late(&self, event: &Event) -> bool
-        ensures { result ≡ is_late self.now.last (seen_event event.now) }
+        ensures { result ≡ is_late self.now.last (shown_event event.now) }
     {
         match event {
             Event::Barrier { id } => *id <= self.last,
@@ -80,7 +80,7 @@ impl EventReader {
     // The event is behind.
     fn pass(&mut self, event: &Event)
         ensures fields { self.new.fields ≡ self.old.fields }
-        ensures last { self.new.last ≡ last_after (seen_event event.now) self.old.last }
+        ensures last { self.new.last ≡ last_after (shown_event event.now) self.old.last }
     {
         if let Event::Barrier { id } = event {
             self.last = *id;
@@ -91,7 +91,7 @@ impl EventReader {
     fn event_at(&mut self, alloc: Global, line: &Line) -> Result<Event, End>
         ensures fields { self.new.fields ≡ self.old.fields }
         ensures reads { ReadsLine (in_order self.old.last (event_of self.old.fields line.now.text)) line.now.number result }
-        ensures last { IfOk result (λ event. self.new.last ≡ last_after (seen_event event) self.old.last) }
+        ensures last { IfOk result (λ event. self.new.last ≡ last_after (shown_event event) self.old.last) }
     {
         let event = match read_event(alloc, line.text.as_slice(), self.fields) {
             Ok(event) => event,

@@ -2,7 +2,7 @@
 ghost use Rattle.std.specs.Prelude.{◌≡◌, ◌≤◌, ◌+◌, false};
 ghost use Rattle.ax_base.specs.Outside.{Told};
 ghost use Rattle.ax_base.specs.Given.{ahead};
-ghost use Rattle.ax_lang.specs.Shown.{shown};
+ghost use Rattle.ax_lang.specs.Shown.{shown_program};
 ghost use Rattle.ax_task.specs.Parse.{parse, stream_of, first_last};
 ghost use Rattle.ax_task.specs.Reads.{sink_end};
 ghost use Rattle.ax_task.specs.Clause.{StreamEnds, RunEnds, Stops, EndCause};
@@ -39,9 +39,9 @@ fn run_events<S: Source, K: Sink>(
 ) -> End
     requires { lines.old.failed ≡ false }
     ensures told { Told (S.left input.old) (S.left input.new)
-        (λ a b. StreamEnds (shown program.now) (stream_of (shown program.now).fields first_last (lines.old.number + 1) (ahead lines.old a)) b (K.holds out.old) (K.holds out.new) result) }
+        (λ a b. StreamEnds (shown_program program.now) (stream_of (shown_program program.now).fields first_last (lines.old.number + 1) (ahead lines.old a)) b (K.holds out.old) (K.holds out.new) result) }
     ensures stopped { Told (S.left input.old) (S.left input.new)
-        (λ a b. EventsStop (shown program.now) (events_at (shown program.now).fields first_last lines.old) lines.old.held a b (K.holds out.old) (K.holds out.new) result) }
+        (λ a b. EventsStop (shown_program program.now) (events_at (shown_program program.now).fields first_last lines.old) lines.old.held a b (K.holds out.old) (K.holds out.new) result) }
     ensures faults { S.faults input.old ≤ S.faults input.new }
     ensures out_faults { K.faults out.old ≤ K.faults out.new }
     ensures cause { EndCause (S.faults input.old) (S.faults input.new) (K.faults out.old) (K.faults out.new) result }

@@ -6,3 +6,4 @@ pub mod Texts
 pub mod Programs
 pub mod KeyStates
 pub mod Run
+pub mod Jobs

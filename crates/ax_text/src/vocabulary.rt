@@ -84,3 +84,12 @@ pub enum TimerOp {
     /// The timer at this time is taken off, where there is one.
     Unset { time: i64 },
 }
+
+/// Which handler of a program runs.
+#[derive(Clone, Copy, Debug, PartialEq, Eq)]
+pub enum Handler {
+    /// `on row`: once for each row.
+    Row,
+    /// `on timer`: once for each timer that fires.
+    Timer,
+}

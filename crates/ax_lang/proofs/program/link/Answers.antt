@@ -1,12 +1,12 @@
 use Rattle.std.proofs.Common.{◌≡◌, ◌∙◌, ◌+◌, refl, ap, map, length, arith}
 use Rattle.ax_lang.specs.declared.step.Step.{Step}
-use Rattle.ax_lang.specs.Steps.{row_in}
+use Rattle.ax_lang.specs.Steps.{shown_statement}
 use Rattle.ax_lang.proofs.LinkLemmas.{rows_before, before_stop, text_end, linked_text, linked_long, linked_stays, linked_fits}
 use Rattle.ax_lang.proofs.program.link.Goals as goal
 
 pub loop-stmt-init : goal.loop-stmt-init
 loop-stmt-init c = record {
-  text = ap (rows_before (map row_in c.args.stmts.items)) (text_end c.args.steps.now.items) ∙ before_stop (map row_in c.args.stmts.items);
+  text = ap (rows_before (map shown_statement c.args.stmts.items)) (text_end c.args.steps.now.items) ∙ before_stop (map shown_statement c.args.stmts.items);
   place = omega arith;
   longer = omega arith;
   stays = λ place low. refl;

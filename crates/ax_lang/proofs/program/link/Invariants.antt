@@ -1,12 +1,12 @@
 use Rattle.std.proofs.Common.{◌≡◌, ◌≤◌, length, map, vec_len}
 use Rattle.ax_lang.specs.Rows.{text_of}
-use Rattle.ax_lang.specs.Steps.{row_in, text_at, GoesOn}
+use Rattle.ax_lang.specs.Steps.{shown_statement, text_at, GoesOn}
 use Rattle.ax_lang.proofs.LinkLemmas.{rows_before, FitsSoFar}
 use Rattle.ax_lang.proofs.program.link.Given as goal
 
 abbrev pub invariant-loop-stmt : goal.invariant-loop-stmt
 invariant-loop-stmt l = record {
-  text : rows_before (map row_in l.stmts.items) (text_at l.steps.items l.next) ≡ text_of (map row_in l.fn.stmts.items);
+  text : rows_before (map shown_statement l.stmts.items) (text_at l.steps.items l.next) ≡ text_of (map shown_statement l.fn.stmts.items);
   place : l.next ≤ length l.steps.items;
   longer : length l.fn.steps.items ≤ length l.steps.items;
   stays : GoesOn l.fn.steps.items l.steps.items;

@@ -6,7 +6,7 @@ use Rattle.ax_lang.specs.declared.step.Stmt.{Stmt}
 use Rattle.ax_lang.specs.declared.step.Handlers.{Handlers}
 use Rattle.ax_lang.specs.Tables.{start}
 use Rattle.ax_lang.specs.Rows.{HandlerRows, no_rows, joined}
-use Rattle.ax_lang.specs.Steps.{row_in, rows_shown}
+use Rattle.ax_lang.specs.Steps.{shown_statement, shown_handlers}
 use Rattle.ax_lang.specs.Sound.{Sound}
 use Rattle.ax_lang.specs.Programs.{Reading, shape_in, tables_of, ReadsProgram, after_in, fault_in, rows_in}
 use Rattle.ax_lang.proofs.RowLemmas.{both}
@@ -18,12 +18,12 @@ use Rattle.ax_lang.proofs.reader.read_program.Goals as goal
 pub loop-line-init : goal.loop-line-init
 loop-line-init c =
     let handlers : Handlers = record { row = c.new.result; timer = c.new-2.result } in
-    let none : rows_shown handlers ≡ no_rows = ap₂ (λ (row timer : List Stmt). both (map row_in row) (map row_in timer)) c.new.ensures.items c.new-2.ensures.items in
+    let none : shown_handlers handlers ≡ no_rows = ap₂ (λ (row timer : List Stmt). both (map shown_statement row) (map shown_statement timer)) c.new.ensures.items c.new-2.ensures.items in
     record {
       tables = c.new-tables.ensures ∙ sym tables_start;
       rows = none ∙ sym rows_start;
       read = read_start c.args.lines.now c.args.end;
-      sound = subst (λ (t : Tables). Sound t (rows_shown handlers)) (sym c.new-tables.ensures) (subst (Sound start) (sym none) sound_start);
+      sound = subst (λ (t : Tables). Sound t (shown_handlers handlers)) (sym c.new-tables.ensures) (subst (Sound start) (sym none) sound_start);
     }
 
 pub loop-line-preserved : goal.loop-line-preserved
@@ -34,8 +34,8 @@ loop-line-preserved c =
     let t = c.loop-line.tables in
     let in_range : i < length ls = c.loop-line-test.true in
     let t' = c.take_line.new.tables in
-    let rows = rows_shown c.loop-line.handlers in
-    let rows' = rows_shown c.take_line.new.handlers in
+    let rows = shown_handlers c.loop-line.handlers in
+    let rows' = shown_handlers c.take_line.new.handlers in
     let P : Line → Type 0 = λ l. (fault_in t (shape_in l) ≡ None) × (t' ≡ after_in t (shape_in l)) × (rows' ≡ joined rows (rows_in t (shape_in l))) in
     let taken : P d = c.in_default.ensures in
     let here : P (get_or ls i d) = subst P c.line-item.is taken in
@@ -53,10 +53,10 @@ returns c =
     let ls = c.args.lines.now in
     let i = c.loop-line.line-index in
     let P : Reading → Type 0 = λ r. ReadsProgram r c.finish.result in
-    subst P (sym (read_done ls i c.args.end c.loop-line.tables (rows_shown c.loop-line.handlers) (omega arith) c.loop-line.invariant.tables c.loop-line.invariant.rows) ∙ c.loop-line.invariant.read) c.finish.ensures
+    subst P (sym (read_done ls i c.args.end c.loop-line.tables (shown_handlers c.loop-line.handlers) (omega arith) c.loop-line.invariant.tables c.loop-line.invariant.rows) ∙ c.loop-line.invariant.read) c.finish.ensures
 
 pub returns-in-Err : goal.returns-in-Err
 returns-in-Err c =
     let in_range : c.loop-line.line-index < length c.args.lines.now = c.loop-line-test.true in
-    fault_told c.args.lines.now c.loop-line.line-index c.line-item.result c.args.end c.loop-line.tables c.take_line.new.tables (rows_shown c.loop-line.handlers) (rows_shown c.take_line.new.handlers) _ c.in-Err.fault in_range c.loop-line.invariant.tables c.line-item.is
+    fault_told c.args.lines.now c.loop-line.line-index c.line-item.result c.args.end c.loop-line.tables c.take_line.new.tables (shown_handlers c.loop-line.handlers) (shown_handlers c.take_line.new.handlers) _ c.in-Err.fault in_range c.loop-line.invariant.tables c.line-item.is
     c.loop-line.invariant.read c.in-Err.ensures

@@ -1,16 +1,16 @@
 use Rattle.std.proofs.Common.{◌∙◌, ap, arith, pos, length}
 use Rattle.std.proofs.lemmas.List.{length-replicate}
-use Rattle.ax_state.specs.KeyCells.{cells_of}
-use Rattle.ax_lang.specs.Steps.{row_in}
+use Rattle.ax_state.specs.KeyCells.{shown_cells}
+use Rattle.ax_lang.specs.Steps.{shown_statement}
 use Rattle.ax_lang.specs.Shown.{text_from}
-use Rattle.ax_plain.specs.Handler.{facts_in, names_in, run_from}
+use Rattle.ax_plain.specs.Handler.{shown_run_facts, shown_locals, run_from}
 use Rattle.ax_plain.proofs.RunLemmas.{names_zero, start_gone_on, GoneOn-row, GoneOn-failed, at_err}
 use Rattle.ax_plain.proofs.handler.run_handler.Goals as goal
 
 pub step-init : goal.step-init
 step-init g c = record {
-  gone = start_gone_on (facts_in c.args.facts.now) c.args.key.now (text_from c.args.program.now c.args.place) (g.K.Sink.holds c.args.out.now) c.args.timers.now (names_in c.begin.new.self.names.items) (cells_of c.args.cells.now)
-      (ap names_in c.in-Ok.ensures ∙ names_zero c.locals.result);
+  gone = start_gone_on (shown_run_facts c.args.facts.now) c.args.key.now (text_from c.args.program.now c.args.place) (g.K.Sink.holds c.args.out.now) c.args.timers.now (shown_locals c.begin.new.self.names.items) (shown_cells c.args.cells.now)
+      (ap shown_locals c.in-Ok.ensures ∙ names_zero c.locals.result);
   locals = ap length c.in-Ok.ensures ∙ length-replicate c.locals.result (pos 0) ∙ c.locals.ensures.value;
   kinds = c.requires;
   faults = omega arith;
@@ -23,11 +23,11 @@ step-preserved g c =
     let step = c.in-Some.step.now in
     let ran = c.in_ok-run_stmt.ensures in
     record {
-      gone = GoneOn-row (facts_in c.args.facts.now) c.args.key.now (run_from c.args.program.now c.args.place c.args.facts.now (cells_of c.args.cells.now))
+      gone = GoneOn-row (shown_run_facts c.args.facts.now) c.args.key.now (run_from c.args.program.now c.args.place c.args.facts.now (shown_cells c.args.cells.now))
           (g.K.Sink.holds c.args.out.now) (g.K.Sink.holds c.step.out) (g.K.Sink.holds c.run_stmt.new.out)
           c.args.timers.now c.step.timers c.run_stmt.new.timers
-          (row_in step.stmt) (text_from c.args.program.now c.step.place) (text_from c.args.program.now step.next)
-          (names_in c.step.room.names.items) (names_in c.run_stmt.new.room.names.items) (cells_of c.step.cells) (cells_of c.run_stmt.new.cells)
+          (shown_statement step.stmt) (text_from c.args.program.now c.step.place) (text_from c.args.program.now step.next)
+          (shown_locals c.step.room.names.items) (shown_locals c.run_stmt.new.room.names.items) (shown_cells c.step.cells) (shown_cells c.run_stmt.new.cells)
           before.gone c.in-Some.ensures.0 ran.names ran.cells ran.times ran.lines;
       locals = ran.locals ∙ before.locals;
       kinds = ran.kinds ∙ before.kinds;
@@ -38,8 +38,8 @@ step-preserved g c =
 pub returns-in_err-run_stmt-clause-part : goal.returns-in_err-run_stmt-clause-part
 returns-in_err-run_stmt-clause-part g c =
     let step = c.in-Some.step.now in
-    at_err c.from_residual.result (GoneOn-failed (facts_in c.args.facts.now) c.args.key.now (run_from c.args.program.now c.args.place c.args.facts.now (cells_of c.args.cells.now))
+    at_err c.from_residual.result (GoneOn-failed (shown_run_facts c.args.facts.now) c.args.key.now (run_from c.args.program.now c.args.place c.args.facts.now (shown_cells c.args.cells.now))
     (g.K.Sink.holds c.args.out.now) (g.K.Sink.holds c.step.out) (g.K.Sink.holds c.run_stmt.new.out) c.args.timers.now c.step.timers
-    (row_in step.stmt) (text_from c.args.program.now c.step.place) (text_from c.args.program.now step.next)
-    (names_in c.step.room.names.items) (cells_of c.step.cells)
+    (shown_statement step.stmt) (text_from c.args.program.now c.step.place) (text_from c.args.program.now step.next)
+    (shown_locals c.step.room.names.items) (shown_cells c.step.cells)
     c.step.invariant.gone c.in-Some.ensures.0 c.in_err-run_stmt.ensures.part)

@@ -1,16 +1,16 @@
 use Rattle.std.proofs.Common.{◌≡◌, ◌≤◌, length}
-use Rattle.ax_state.specs.KeyCells.{cells_of, kinds_in}
+use Rattle.ax_state.specs.KeyCells.{shown_cells, cell_kinds}
 use Rattle.ax_lang.specs.Shown.{locals_of, text_from}
 use Rattle.ax_lang.specs.Shown as lang
-use Rattle.ax_plain.specs.Handler.{facts_in, names_in, run_from}
+use Rattle.ax_plain.specs.Handler.{shown_run_facts, shown_locals, run_from}
 use Rattle.ax_plain.proofs.RunLemmas.{GoneOn}
 use Rattle.ax_plain.proofs.handler.run_handler.Given as goal
 
 abbrev pub invariant-step : goal.invariant-step
 invariant-step g l = record {
-  gone : GoneOn (facts_in l.facts) l.key (run_from l.program l.fn.place l.facts (cells_of l.fn.cells)) (g.K.Sink.holds l.fn.out) (g.K.Sink.holds l.out) l.fn.timers l.timers (text_from l.program l.place) (names_in l.room.names.items) (cells_of l.cells);
+  gone : GoneOn (shown_run_facts l.facts) l.key (run_from l.program l.fn.place l.facts (shown_cells l.fn.cells)) (g.K.Sink.holds l.fn.out) (g.K.Sink.holds l.out) l.fn.timers l.timers (text_from l.program l.place) (shown_locals l.room.names.items) (shown_cells l.cells);
   locals : length l.room.names.items ≡ locals_of l.program;
-  kinds : kinds_in l.cells ≡ lang.kinds_in l.program;
+  kinds : cell_kinds l.cells ≡ lang.shown_kinds l.program;
   faults : g.K.Sink.faults l.fn.out ≤ g.K.Sink.faults l.out;
   short : g.K.Sink.short l.fn.out ≤ g.K.Sink.short l.out;
 }

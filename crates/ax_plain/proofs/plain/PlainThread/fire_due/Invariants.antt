@@ -1,15 +1,15 @@
 use Rattle.std.proofs.Common.{◌≡◌, ◌≤◌}
 use Rattle.ax_machine.specs.Sync.{all_fired}
-use Rattle.ax_lang.specs.Shown.{shown, kinds_in}
+use Rattle.ax_lang.specs.Shown.{shown_program, shown_kinds}
 use Rattle.ax_plain.specs.Agenda.{firings_left}
-use Rattle.ax_plain.specs.Plain.{plain_in, ThreadFits}
+use Rattle.ax_plain.specs.Plain.{shown_plain, ThreadFits}
 use Rattle.ax_plain.proofs.FireLemmas.{Firing}
 use Rattle.ax_plain.proofs.plain.PlainThread.fire_due.Given as goal
 
 abbrev pub invariant-due : goal.invariant-due
 invariant-due g l = record {
-  firing : Firing (shown l.program) (all_fired (shown l.program) (plain_in (kinds_in l.program) l.fn.self)) (g.K.Sink.holds l.fn.out) (g.K.Sink.holds l.out) (plain_in (kinds_in l.program) l.self) l.agenda;
-  fits : ThreadFits (kinds_in l.program) l.self;
+  firing : Firing (shown_program l.program) (all_fired (shown_program l.program) (shown_plain (shown_kinds l.program) l.fn.self)) (g.K.Sink.holds l.fn.out) (g.K.Sink.holds l.out) (shown_plain (shown_kinds l.program) l.self) l.agenda;
+  fits : ThreadFits (shown_kinds l.program) l.self;
   mark : l.self.wm ≡ l.time;
   faults : g.K.Sink.faults l.fn.out ≤ g.K.Sink.faults l.out;
   short : g.K.Sink.short l.fn.out ≤ g.K.Sink.short l.out;

@@ -5,14 +5,14 @@ use Rattle.ax_text.specs.Programs.{untouched}
 use Rattle.ax_keys.specs.Keys.{key_cmp}
 use Rattle.ax_machine.specs.Entries.{Key}
 use Rattle.ax_machine.specs.Sync.{knows}
-use Rattle.ax_lang.specs.Shown.{kinds_in}
+use Rattle.ax_lang.specs.Shown.{shown_kinds}
 use Rattle.ax_plain.specs.Plain.{map_of}
 use Rattle.ax_plain.proofs.ThreadLemmas.{held_plain, plain}
 use Rattle.ax_plain.proofs.plain.PlainThread.hold.Goals as goal
 
 pub returns-in-Ok-clause-knows : goal.returns-in-Ok-clause-knows
 returns-in-Ok-clause-knows c =
-    let kinds = kinds_in c.args.program.now in
+    let kinds = shown_kinds c.args.program.now in
     let m = c.args.self.now.states in
     let n = c.insert.new.self in
     let t = c.args.self.now.timers in

@@ -3,9 +3,9 @@ use Rattle.std.proofs.Math.Facts.{to_z-of_z}
 use Rattle.std.specs.Io.KnownBytes.{Appends}
 use Rattle.ax_machine.specs.Entries.{Entry, Mark, Watermark, text_of}
 use Rattle.ax_machine.specs.Sync.{all_fired, at_watermark}
-use Rattle.ax_lang.specs.Shown.{shown, kinds_in}
+use Rattle.ax_lang.specs.Shown.{shown_program, shown_kinds}
 use Rattle.ax_plain.specs.Handler.{AppendsSome}
-use Rattle.ax_plain.specs.Plain.{plain_in}
+use Rattle.ax_plain.specs.Plain.{shown_plain}
 use Rattle.ax_plain.proofs.RunLemmas.{at_err, on_err, AppendsSome-all}
 use Rattle.ax_plain.proofs.FireLemmas.{front_some, marked, marked_some}
 use Rattle.ax_plain.proofs.ThreadLemmas.{on_ok}
@@ -14,7 +14,7 @@ use Rattle.ax_plain.proofs.plain.PlainThread.pass_greater.Goals as goal
 pub returns-in_err-fire_due-clause-part : goal.returns-in_err-fire_due-clause-part
 returns-in_err-fire_due-clause-part g c =
     let fits : FitsSigned w64 c.args.time.now = search rules in
-    let fired : ℤ → List Entry = λ w. (all_fired (shown c.args.program.now) (at_watermark w (plain_in (kinds_in c.args.program.now) c.args.self.now))).entries in
+    let fired : ℤ → List Entry = λ w. (all_fired (shown_program c.args.program.now) (at_watermark w (shown_plain (shown_kinds c.args.program.now) c.args.self.now))).entries in
     let es = fired (to_z w64 (of_z w64 c.args.time.now)) in
     let mark : Entry = Mark (Watermark c.args.time.now) in
     let P : List Entry → Type 0 = λ x. AppendsSome (g.K.Sink.holds c.args.out.now) (g.K.Sink.holds c.fire_due.new.out) (text_of (x ++ mark ∷ [])) in
@@ -23,7 +23,7 @@ returns-in_err-fire_due-clause-part g c =
 pub returns-in_default-clause-part : goal.returns-in_default-clause-part
 returns-in_default-clause-part g c =
     let fits : FitsSigned w64 c.args.time.now = search rules in
-    let fired : ℤ → List Entry = λ w. (all_fired (shown c.args.program.now) (at_watermark w (plain_in (kinds_in c.args.program.now) c.args.self.now))).entries in
+    let fired : ℤ → List Entry = λ w. (all_fired (shown_program c.args.program.now) (at_watermark w (shown_plain (shown_kinds c.args.program.now) c.args.self.now))).entries in
     let es = fired (to_z w64 (of_z w64 c.args.time.now)) in
     let mark : Entry = Mark (Watermark c.args.time.now) in
     let P : List Entry → Type 0 = λ x. AppendsSome (g.K.Sink.holds c.args.out.now) (g.K.Sink.holds c.fire_due.new.out) (text_of (x ++ mark ∷ [])) in
@@ -33,7 +33,7 @@ returns-in_default-clause-part g c =
 pub returns-clause-lines : goal.returns-clause-lines
 returns-clause-lines g c =
     let fits : FitsSigned w64 c.args.time.now = search rules in
-    let fired : ℤ → List Entry = λ w. (all_fired (shown c.args.program.now) (at_watermark w (plain_in (kinds_in c.args.program.now) c.args.self.now))).entries in
+    let fired : ℤ → List Entry = λ w. (all_fired (shown_program c.args.program.now) (at_watermark w (shown_plain (shown_kinds c.args.program.now) c.args.self.now))).entries in
     let es = fired (to_z w64 (of_z w64 c.args.time.now)) in
     let mark : Entry = Mark (Watermark c.args.time.now) in
     let text = c.text.ensures ∙ c.in-Ok.ensures in
@@ -44,7 +44,7 @@ returns-clause-lines g c =
 pub returns-clause-part : goal.returns-clause-part
 returns-clause-part g c =
     let fits : FitsSigned w64 c.args.time.now = search rules in
-    let fired : ℤ → List Entry = λ w. (all_fired (shown c.args.program.now) (at_watermark w (plain_in (kinds_in c.args.program.now) c.args.self.now))).entries in
+    let fired : ℤ → List Entry = λ w. (all_fired (shown_program c.args.program.now) (at_watermark w (shown_plain (shown_kinds c.args.program.now) c.args.self.now))).entries in
     let es = fired (to_z w64 (of_z w64 c.args.time.now)) in
     let mark : Entry = Mark (Watermark c.args.time.now) in
     let text = c.text.ensures ∙ c.in-Ok.ensures in

@@ -3,9 +3,9 @@ use Rattle.std.specs.BTreeMap.{get}
 use Rattle.ax_text.specs.Cells.{Cells}
 use Rattle.ax_text.specs.Run.{times_after}
 use Rattle.ax_keys.specs.Keys.{key_cmp}
-use Rattle.ax_state.specs.KeyCells.{cells_of}
+use Rattle.ax_state.specs.KeyCells.{shown_cells}
 use Rattle.ax_time.specs.Timers.{PutsTimes, times_of}
-use Rattle.ax_lang.specs.Shown.{kinds_in}
+use Rattle.ax_lang.specs.Shown.{shown_kinds}
 use Rattle.ax_plain.specs.Handler.{run_from}
 use Rattle.ax_plain.specs.Plain.{cells_or, map_of}
 use Rattle.ax_plain.proofs.ThreadLemmas.{known, ran_plain}
@@ -16,7 +16,7 @@ returns-clause-held g c = λ held. known c.args.self.now.states c.args.key.now c
 
 pub returns-clause-steps : goal.returns-clause-steps
 returns-clause-steps g c = λ held.
-    let kinds = kinds_in c.args.program.now in
+    let kinds = shown_kinds c.args.program.now in
     let m = c.args.self.now.states in
     let t = c.args.self.now.timers in
     let key = c.args.key.now in
@@ -24,7 +24,7 @@ returns-clause-steps g c = λ held.
     let some : IsSome (get key_cmp m key) = subst IsSome c.in-Some.ensures.value refl in
     let after = c.get_mut.follows.holds cells in
     let ran = λ (x : Cells). run_from c.args.program.now c.args.place c.args.facts.now x in
-    let E : Cells → Type 0 = λ x. cells_of cells ≡ (ran x).cells in
+    let E : Cells → Type 0 = λ x. shown_cells cells ≡ (ran x).cells in
     let T : Cells → Type 0 = λ x. PutsTimes t c.run_handler.new.timers key (times_after (ran x).talk.ops (times_of t key)) in
     let same = ap (cells_or kinds) c.in-Some.ensures.value in
     ran_plain kinds m (c.get_mut.follows.lender cells) t c.run_handler.new.timers key cells (after.3 some).0 c.args.self.now.wm (ran (map_of kinds m t key).cells)

@@ -4,9 +4,9 @@ use Rattle.ax_expr.specs.declared.tree.Expr.{Expr as Code, fold-Expr}
 use Rattle.ax_expr.specs.declared.tree.Expr.TheOpen.{Expr-F}
 use Rattle.ax_expr.specs.declared.tree.Expr.TheOpen as e
 
-abbrev pub seen_level : Expr-F Expr → Expr
-seen_level (e.Leaf a) = Leaf a
-seen_level (e.Join o a b) = Join o a b
+abbrev pub shown_level : Expr-F Expr → Expr
+shown_level (e.Leaf a) = Leaf a
+shown_level (e.Join o a b) = Join o a b
 
-unfoldable pub seen : Code → Expr
-seen code = fold-Expr Expr seen_level code
+unfoldable pub shown_expr : Code → Expr
+shown_expr code = fold-Expr Expr shown_level code
