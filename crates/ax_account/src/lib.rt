@@ -14,8 +14,6 @@ pub mod accounting;
 mod entry;
 mod idle;
 pub mod part;
-#[cfg(test)]
-mod tests;
 
 pub use accounting::Accounting;
 pub use ax_keys::Keys;

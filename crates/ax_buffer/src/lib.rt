@@ -10,8 +10,6 @@
 pub mod buffer;
 mod chain;
 pub mod items;
-#[cfg(test)]
-mod tests;
 
 pub use buffer::RequestBuffer;
 pub use items::{Batch, Item, Replies, Reply};

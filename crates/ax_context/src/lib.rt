@@ -11,8 +11,6 @@
 pub mod contexts;
 pub mod id;
 pub mod laws;
-#[cfg(test)]
-mod tests;
 
 pub use contexts::{Contexts, Released};
 pub use id::Id;

@@ -9,8 +9,6 @@
 pub mod groups;
 pub mod key;
 pub mod laws;
-#[cfg(test)]
-mod tests;
 
 pub use groups::{group, index_of_group, range_of_index, spread};
 pub use key::{Key, Keys};

@@ -9,8 +9,6 @@
 
 pub mod mail;
 pub mod mailbox;
-#[cfg(test)]
-mod tests;
 
 pub use mail::Mail;
 pub use mailbox::Mailbox;

@@ -76,13 +76,13 @@ pub fn expect_bytes(
 ) -> Result<(), Fail> {
     let alloc = rt.alloc();
     let bytes = joined(alloc, pieces)?;
-    let shown_program = end_of(alloc, bytes.as_slice())?;
+    let shown = end_of(alloc, bytes.as_slice())?;
     let mut source = SureSource::new(bytes);
     let mut sink = SureSink::new(alloc);
     let mut err = SureSink::new(alloc);
     let found = run_alone(alloc, &[], &mut source, &mut sink, &mut err);
-    assert_eq!(rt; found, status, "at .. {shown_program}");
-    assert_eq!(rt; sink.bytes(), out, "at .. {shown_program}");
+    assert_eq!(rt; found, status, "at .. {shown}");
+    assert_eq!(rt; sink.bytes(), out, "at .. {shown}");
     let line = line_of(alloc, status)?;
     assert_eq!(rt; err.bytes(), line.as_bytes());
     Ok(())

@@ -1,6 +1,12 @@
-//! Tests of whole runs: tables of inputs, and what each must leave.
+//! Tests: tables of whole runs, and of the calls of single crates, driven from outside.
 #![tactic(auto)]
 
+#[cfg(test)]
+mod accounts;
+#[cfg(test)]
+mod buffers;
+#[cfg(test)]
+mod contexts;
 #[cfg(test)]
 mod events;
 #[cfg(test)]
@@ -11,10 +17,16 @@ mod failing;
 mod faulty;
 pub mod inputs;
 #[cfg(test)]
+mod keys;
+#[cfg(test)]
 mod limits;
+#[cfg(test)]
+mod mailboxes;
 #[cfg(test)]
 mod outside;
 #[cfg(test)]
 mod programs;
+#[cfg(test)]
+mod texts;
 #[cfg(test)]
 mod timers;

@@ -1,6 +1,6 @@
-//! Runs of calls, beside plain lists.
-use crate::accounting::Accounting;
-use crate::part::{MOST_FIRINGS, Next, Occupied};
+//! Runs of the accounts of keys, beside plain lists.
+use ax_account::Accounting;
+use ax_account::{MOST_FIRINGS, Next, Occupied};
 use ax_base::NoMemory;
 use ax_context::{Contexts, Id};
 use ax_keys::Key;

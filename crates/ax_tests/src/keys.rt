@@ -1,6 +1,6 @@
-//! Worked values, and that the calls that take memory succeed.
-use crate::groups::{group, index_of_group, range_of_index, spread};
-use crate::key::Key;
+//! Worked values of keys and key groups.
+use ax_keys::{group, index_of_group, range_of_index, spread};
+use ax_keys::Key;
 use ax_base::Duplicate;
 use std::cmp::Ordering;
 use std::process::Abort;

@@ -1,6 +1,6 @@
-//! Runs of posts and takes.
-use crate::mail::Mail;
-use crate::mailbox::Mailbox;
+//! Runs of posts and takes of a mailbox.
+use ax_mailbox::Mail;
+use ax_mailbox::Mailbox;
 use ax_base::NoMemory;
 use ax_context::{Contexts, Id};
 use ax_state::Answer;

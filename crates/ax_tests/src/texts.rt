@@ -1,8 +1,8 @@
 //! Worked lines: each form of an event and of an output line both ways, and lines that are none.
-use crate::event::{Event, EventFault, is_skipped, read_event};
-use crate::line::{OutLine, SnapLine};
-use crate::read::read_out_line;
-use crate::write::{
+use ax_input::{Event, EventFault, is_skipped, read_event};
+use ax_input::{OutLine, SnapLine};
+use ax_input::read_out_line;
+use ax_input::{
     put_end, put_event, put_head, put_out, put_out_line, put_timer, put_value, put_watermark,
 };
 use ax_base::{Bytes, Nums};

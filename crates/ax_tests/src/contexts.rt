@@ -1,9 +1,9 @@
-//! Runs of calls against a plain list, and the numbers when they come round.
+//! Runs of contexts, beside a plain list.
 ghost use Rattle.std.specs.Prelude.{◌<◌, vec_len};
 ghost use Rattle.ax_context.specs.Slots.{IsLive, IsPaid};
 
-use crate::contexts::{Contexts, Released};
-use crate::id::Id;
+use ax_context::{Contexts, Released};
+use ax_context::Id;
 use std::alloc::AllocError;
 use std::test::Fail;
 
@@ -139,34 +139,5 @@ fn many_calls(rt: HostRuntime) -> Result<(), Fail> {
         assert!(rt; agree(&contexts, &seen));
     }
     assert!(rt; number > 100);
-    Ok(())
-}
-
-// The numbers go on from this one.
-fn go_on_from(contexts: &mut Contexts<u32>, number: u64) {
-    contexts.next = number;
-    contexts.spare = 0;
-}
-
-// The number of a new context, where there is room.
-fn made(contexts: &mut Contexts<u32>) -> Option<(Id, u64)> {
-    if contexts.len() == contexts.limit() {
-        return None;
-    }
-    let id = contexts.make(0, 0);
-    Some((id, contexts.number(id)))
-}
-
-#[test]
-fn numbers_come_round(rt: HostRuntime) -> Result<(), Fail> {
-    let mut contexts = Contexts::with_limit(rt.alloc(), 9)?;
-    for number in 1..5 {
-        assert_eq!(rt; made(&mut contexts).map(|m| m.1), Some(number));
-    }
-    go_on_from(&mut contexts, u64::MAX - 1);
-    for number in [u64::MAX - 1, u64::MAX, 0, 5, 6] {
-        assert_eq!(rt; made(&mut contexts).map(|m| m.1), Some(number));
-    }
-    assert_eq!(rt; made(&mut contexts), None);
     Ok(())
 }

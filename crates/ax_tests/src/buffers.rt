@@ -1,8 +1,8 @@
-//! Batches, and a longer run beside a plain list.
+//! Batches of the request buffer, and a longer run beside a plain list.
 ghost use Rattle.std.specs.Prelude.{◌≡◌, ◌<◌, length};
 
-use crate::buffer::RequestBuffer;
-use crate::items::Item;
+use ax_buffer::RequestBuffer;
+use ax_buffer::Item;
 use ax_base::NoMemory;
 use ax_context::{Contexts, Id};
 use ax_keys::Key;
