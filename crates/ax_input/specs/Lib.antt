@@ -1,4 +1,5 @@
 pub mod Spellings
+pub mod Values
 pub mod Events
 pub mod OutLines
 pub mod Shown

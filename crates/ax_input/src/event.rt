@@ -1,10 +1,10 @@
 //! The lines of events.
-ghost use Rattle.std.specs.Prelude.{◌≡◌, MatchOption};
+ghost use Rattle.std.specs.Prelude.{◌≡◌, ◌∷◌, MatchOption};
 ghost use Rattle.ax_base.specs.Words.{words_of};
-ghost use Rattle.ax_input.specs.Events.{is_skipped, only_word, row_by, mark_by, barrier_by, event_of};
-ghost use Rattle.ax_input.specs.Reads.{ReadsEvent, SplitsRow};
+ghost use Rattle.ax_input.specs.Events.{is_skipped, only_word, row_by, mark_by, barrier_by, event_by, event_of};
+ghost use Rattle.ax_input.specs.Reads.{ReadsEvent, ReadsLine, SplitsRow};
 
-use crate::numbers::{has_words, numbers};
+use crate::numbers::{RowValues, row_values};
 use ax_base::words::first_word;
 use ax_base::{NoMemory, Nums, read_i64};
 use ax_keys::Key;
@@ -61,25 +61,26 @@ struct RowWords<'a> {
     values: &'a [u8],
 }
 
-// The parts of a row with so many values, where it has as many words.
-fn row_words(text: &[u8], fields: u8) -> Option<RowWords<'_>>
-    ensures { SplitsRow fields (words_of text.now) result }
+// The parts of a row, where it has a key and a time.
+fn row_words(text: &[u8]) -> Option<RowWords<'_>>
+    ensures { SplitsRow (words_of text.now) result }
 {
     let (key, text) = first_word(text)?;
     let (time, values) = first_word(text)?;
-    if has_words(values, fields) {
-        Some(RowWords { key, time, values })
-    } else {
-        None
-    }
+    Some(RowWords { key, time, values })
 }
 
 // The row that these words are, behind its first word.
 fn read_row(alloc: Global, text: &[u8], fields: u8) -> Result<Event, EventFault>
     ensures { ReadsEvent (row_by fields (words_of text.now)) result }
 {
-    let Some(words) = row_words(text, fields) else {
+    let Some(words) = row_words(text) else {
         return Err(EventFault::Count);
+    };
+    let values = match row_values(alloc, words.values, fields) {
+        Ok(RowValues::OtherCount) => return Err(EventFault::Count),
+        Ok(values) => values,
+        Err(NoMemory) => return Err(EventFault::NoMemory),
     };
     let key = match Key::read(alloc, words.key) {
         Ok(Some(key)) => key,
@@ -89,10 +90,9 @@ fn read_row(alloc: Global, text: &[u8], fields: u8) -> Result<Event, EventFault>
     let Some(time) = read_i64(words.time) else {
         return Err(EventFault::Number);
     };
-    match numbers(alloc, words.values, fields) {
-        Ok(Some(values)) => Ok(Event::Row { key, time, values }),
-        Ok(None) => Err(EventFault::Number),
-        Err(NoMemory) => Err(EventFault::NoMemory),
+    match values {
+        RowValues::Are(values) => Ok(Event::Row { key, time, values }),
+        _ => Err(EventFault::Number),
     }
 }
 
@@ -133,17 +133,10 @@ fn read_barrier(text: &[u8]) -> Result<Event, EventFault>
     }
 }
 
-/// The event of a line, where a row has so many values: `r KEY TIME V1 .. VN`, `w TIME` or `b ID`.
-///
-/// Each fault comes exactly where the first fault is of that kind; `NoMemory` is free. They are tried in this order: Word,
-/// Count, Key, Number. Blank lines and comments are told by `is_skipped`; here they are faults of kind Word.
-#[tactic(auto, unfolding(crate::specs::Events::event_of))]
-pub fn read_event(alloc: Global, text: &[u8], fields: u8) -> Result<Event, EventFault>
-    ensures { ReadsEvent (event_of fields text.now) result }
+// The event that begins with this word and goes on with this text.
+fn read_by(alloc: Global, word: &[u8], rest: &[u8], fields: u8) -> Result<Event, EventFault>
+    ensures { ReadsEvent (event_by fields (word.now ∷ words_of rest.now)) result }
 {
-    let Some((word, rest)) = first_word(text) else {
-        return Err(EventFault::Word);
-    };
     if same(word, b"r") {
         return read_row(alloc, rest, fields);
     }
@@ -154,5 +147,37 @@ pub fn read_event(alloc: Global, text: &[u8], fields: u8) -> Result<Event, Event
         read_barrier(rest)
     } else {
         Err(EventFault::Word)
+    }
+}
+
+/// The event of a line, where a row has so many values: `r KEY TIME V1 .. VN`, `w TIME` or `b ID`.
+///
+/// Each fault comes exactly where the first fault is of that kind; `NoMemory` is free. They are tried in this order: Word,
+/// Count, Key, Number. Blank lines and comments are told by `is_skipped`; here they are faults of kind Word.
+#[tactic(auto, unfolding(crate::specs::Events::event_of))]
+pub fn read_event(alloc: Global, text: &[u8], fields: u8) -> Result<Event, EventFault>
+    ensures { ReadsEvent (event_of fields text.now) result }
+{
+    match first_word(text) {
+        Some((word, rest)) => read_by(alloc, word, rest, fields),
+        None => Err(EventFault::Word),
+    }
+}
+
+/// The event of a line, and `None` exactly where the line is blank or a comment: `is_skipped` and `read_event` in one, which looks at
+/// the line's first word once.
+#[tactic(auto, unfolding(crate::specs::Events::event_of))]
+pub fn read_line(alloc: Global, text: &[u8], fields: u8) -> Result<Option<Event>, EventFault>
+    ensures { ReadsLine (is_skipped text.now) (event_of fields text.now) result }
+{
+    let Some((word, rest)) = first_word(text) else {
+        return Ok(None);
+    };
+    if matches!(word, [b'#', ..]) {
+        return Ok(None);
+    }
+    match read_by(alloc, word, rest, fields) {
+        Ok(event) => Ok(Some(event)),
+        Err(fault) => Err(fault),
     }
 }

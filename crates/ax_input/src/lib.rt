@@ -16,7 +16,7 @@ mod numbers;
 pub mod read;
 pub mod write;
 
-pub use event::{Event, EventFault, is_skipped, read_event};
+pub use event::{Event, EventFault, is_skipped, read_event, read_line};
 pub use line::{OutLine, SnapLine};
 pub use read::read_out_line;
 pub use write::{

@@ -3,6 +3,7 @@ ghost use Rattle.std.specs.Prelude.{◌≡◌, ◌==◌, length, true, false, If
 ghost use Rattle.ax_base.specs.Words.{words_of};
 ghost use Rattle.ax_input.specs.Spellings.{numbers_of, one_number, two_numbers};
 ghost use Rattle.ax_input.specs.OutLines.{is_few};
+ghost use Rattle.ax_input.specs.Values.{ReadsValues, IsWithout};
 
 use ax_base::words::first_word;
 use ax_base::{NoMemory, Nums, read_i64, split_words};
@@ -12,7 +13,7 @@ use std::alloc::Global;
 const MOST: u8 = 16;
 
 // Whether a text has so many words.
-pub(crate) fn has_words(text: &[u8], count: u8) -> bool
+fn has_words(text: &[u8], count: u8) -> bool
     ensures { result ≡ (length (words_of text.now) == count) }
 {
     let mut missing = count;
@@ -37,6 +38,57 @@ pub(crate) fn few_words(text: &[u8]) -> Option<u8>
         count += 1;
     }
     if count == 0 { None } else { Some(count) }
+}
+
+// What the words behind a row's time are.
+pub(crate) enum RowValues {
+    // As many words as a row has values, each a number.
+    Are(Nums),
+    // As many words, of which one is no number.
+    NoNumber,
+    // More words, or fewer.
+    OtherCount,
+}
+
+// The values of a row that has so many, from the words behind its time. Each word is looked at once.
+#[tactic(auto, using(crate::proofs::NumberLemmas::onto_nil, crate::proofs::NumberLemmas::onto_number, crate::proofs::NumberLemmas::onto_no_number))]
+pub(crate) fn row_values(alloc: Global, text: &[u8], fields: u8) -> Result<RowValues, NoMemory>
+    ensures { ReadsValues fields (words_of text.now) result }
+{
+    let Ok(mut numbers) = Vec::with_capacity(alloc, usize::from(fields)) else {
+        return Err(NoMemory);
+    };
+    let mut missing = fields;
+    let mut text = text;
+    'word: while let Some((word, rest)) = first_word(text) {
+        if missing == 0 {
+            return Ok(RowValues::OtherCount);
+        }
+        missing -= 1;
+        text = rest;
+        let Some(number) = read_i64(word) else {
+            return Ok(without_number(rest, missing));
+        };
+        if numbers.push(number).is_err() {
+            return Err(NoMemory);
+        }
+    }
+    if missing == 0 {
+        Ok(RowValues::Are(Nums::from_vec(numbers)))
+    } else {
+        Ok(RowValues::OtherCount)
+    }
+}
+
+// What the values of a row are in which a word was no number, where so many words are still to come.
+fn without_number(text: &[u8], missing: u8) -> RowValues
+    ensures { IsWithout missing (words_of text.now) result }
+{
+    if has_words(text, missing) {
+        RowValues::NoNumber
+    } else {
+        RowValues::OtherCount
+    }
 }
 
 // The numbers that all words are, of which there may be so many without taking more memory; `None` where one is no

@@ -9,28 +9,27 @@ ghost use Rattle.ax_keys.specs.Keys.{is_key, is_key_byte};
 use ax_base::{Duplicate, ListOf, NoMemory};
 use std::alloc::Global;
 use std::cmp::Ordering;
-use std::convert::AsStr;
 use std::marker::Model;
 
 /// A key: 1 to 256 printing bytes from 0x21 to 0x7E. Contracts see it as its bytes. Keys are equal
 /// where their bytes are, and ordered by their bytes: a key comes before those that it begins.
 #[derive(Debug, Drop)]
 pub struct Key {
-    text: String,
+    bytes: Vec<u8>,
 }
 
 /// A list of keys.
 pub type Keys = ListOf<Key>;
 
 impl Model for Key {
-    ghost use Rattle.std.specs.Prelude.{◌≡◌, ℕ, List, true, string_bytes};
+    ghost use Rattle.std.specs.Prelude.{◌≡◌, ℕ, List, true};
     ghost use Rattle.ax_keys.specs.Keys.{is_key};
 
     ghost Value = { List ℕ };
 
-    ghost view = { λ k. string_bytes k.text };
+    ghost view = { λ k. k.bytes.items };
 
-    ghost invariant = { λ k. is_key (string_bytes k.text) ≡ true };
+    ghost invariant = { λ k. is_key k.bytes.items ≡ true };
 }
 
 // Whether a byte prints and is no space.
@@ -61,27 +60,16 @@ fn is_key(word: &[u8]) -> bool
     has_key_length(word) && has_key_bytes(word)
 }
 
-// A word as text, where it is a key.
-#[tactic(auto, using(crate::proofs::KeyLemmas::key_is_utf8))]
-fn key_text(word: &[u8]) -> Option<&str>
-    ensures { MatchOption result (is_key word.now ≡ false) (λ text. (text.now ≡ word.now) × (is_key word.now ≡ true)) }
-{
-    if !is_key(word) {
-        return None;
-    }
-    std::str::from_utf8(word).ok()
-}
-
 impl Key {
     /// The key that a word is, and `None` exactly where it is none. The only fault is `NoMemory`.
     pub fn read(alloc: Global, word: &[u8]) -> Result<Option<Key>, NoMemory>
         ensures { IfOk result (λ key. MatchOption key (is_key word.now ≡ false) (λ k. (k ≡ word.now) × (is_key word.now ≡ true))) }
     {
-        let Some(text) = key_text(word) else {
+        if !is_key(word) {
             return Ok(None);
-        };
-        match String::from_str(alloc, text) {
-            Ok(text) => Ok(Some(Key { text })),
+        }
+        match Vec::from_slice(alloc, word) {
+            Ok(bytes) => Ok(Some(Key { bytes })),
             Err(_) => Err(NoMemory),
         }
     }
@@ -91,31 +79,16 @@ impl Key {
         ensures value { result.now ≡ self.now }
         ensures key { is_key self.now ≡ true }
     {
-        self.text.as_bytes()
-    }
-
-    /// The key as text, of which the bytes are those of the key.
-    pub fn as_text(&self) -> &str
-        ensures { result.now ≡ self.now }
-    {
-        self.text.as_str()
+        self.bytes.as_slice()
     }
 }
 
 impl Duplicate for Key {
     fn copy(&self, alloc: Global) -> Result<Key, NoMemory> {
-        match String::from_str(alloc, self.text.as_str()) {
-            Ok(text) => Ok(Key { text }),
+        match Vec::from_slice(alloc, self.as_bytes()) {
+            Ok(bytes) => Ok(Key { bytes }),
             Err(_) => Err(NoMemory),
         }
-    }
-}
-
-impl AsStr for Key {
-    ghost text = { λ key. key };
-
-    fn as_str(&self) -> &str {
-        self.as_text()
     }
 }
 
@@ -125,7 +98,7 @@ impl PartialEq for Key {
     ghost laws = { partial_equiv_from_equiv nat_list_eq_equiv };
 
     fn eq(&self, other: &Key) -> bool {
-        self.as_text() == other.as_text()
+        self.bytes == other.bytes
     }
 }
 
@@ -153,6 +126,6 @@ impl Ord for Key {
     ghost matches_eq = { texts_ties };
 
     fn cmp(&self, other: &Key) -> Ordering {
-        self.as_text().cmp(other.as_text())
+        self.bytes.cmp(&other.bytes)
     }
 }

@@ -72,7 +72,7 @@ fn words_that_are_keys(rt: HostRuntime) -> Result<(), Fail> {
                 assert_eq!(rt; key.as_bytes(), word);
                 let other = key.copy(rt.alloc())?;
                 assert!(rt; other == key);
-                assert_eq!(rt; other.as_text(), key.as_text());
+                assert_eq!(rt; other.as_bytes(), key.as_bytes());
             }
             None => assert!(rt; !is_key),
         }
