@@ -41,6 +41,7 @@ pub(crate) fn few_words(text: &[u8]) -> Option<u8>
 }
 
 // What the words behind a row's time are.
+#[derive(Drop)]
 pub(crate) enum RowValues {
     // As many words as a row has values, each a number.
     Are(Nums),
