@@ -1,6 +1,7 @@
 -- What a call of `next` answers.
 use Rattle.std.specs.Prelude.{◌≡◌, ◌+◌, ◌≤◌, ◌<◌, ℕ, List, [], ◌∷◌, ◌++◌, length, true, false, Option, Some, None, Result, Ok, Err, ◌⊎◌}
 use Rattle.std.specs.Io.KnownBytes.{Consumes}
+use Rattle.ax_base.specs.Outside.{RoseByOne}
 use Rattle.ax_base.specs.Pieces.{Piece, Whole, pieces_of}
 use Rattle.ax_base.specs.Pieces as piece
 use Rattle.ax_base.specs.Reader.{Reader}
@@ -57,3 +58,19 @@ IsReadFault (Err fault.Read) = Unit {0}
 IsReadFault (Err (fault.TooLong n)) = ⊥
 IsReadFault (Err (fault.TooMuch n)) = ⊥
 IsReadFault (Err fault.NoMemory) = ⊥
+
+-- the count of the source's faults rises by one where it could not be read, and stays at every other answer
+abbrev pub LineCount : ℕ → ℕ → Result (Option Line) LineFault → Type 0
+LineCount before now (Ok o) = now ≡ before
+LineCount before now (Err fault.Read) = RoseByOne before now
+LineCount before now (Err (fault.TooLong n)) = now ≡ before
+LineCount before now (Err (fault.TooMuch n)) = now ≡ before
+LineCount before now (Err fault.NoMemory) = now ≡ before
+
+-- what was read and not given goes at most one byte past the limit, and lies within it where a read failed
+abbrev pub StaysNear : Reader → Result (Option Line) LineFault → Type 0
+StaysNear new (Ok o) = length new.held ≤ new.limit + 1
+StaysNear new (Err fault.Read) = length new.held ≤ new.limit
+StaysNear new (Err (fault.TooLong n)) = length new.held ≤ new.limit + 1
+StaysNear new (Err (fault.TooMuch n)) = length new.held ≤ new.limit + 1
+StaysNear new (Err fault.NoMemory) = length new.held ≤ new.limit + 1

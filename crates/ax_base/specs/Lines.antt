@@ -3,7 +3,7 @@ use Rattle.std.specs.Prelude.{◌≡◌, ◌≤◌, ◌<◌, ◌+◌, ◌-◌, �
 use Rattle.std.specs.Io.KnownBytes.{Consumes}
 use Rattle.ax_base.specs.Pieces.{pieces_of}
 use Rattle.ax_base.specs.Pieces as piece
-use Rattle.ax_base.specs.Outside.{Told}
+use Rattle.ax_base.specs.Outside.{Told, RoseByOne}
 use Rattle.ax_base.specs.declared.find.Found.{Found}
 use Rattle.ax_base.specs.declared.find.Found.TheVariants as found
 use Rattle.ax_base.specs.declared.find.Stop.{Stop}
@@ -59,3 +59,10 @@ Finds limit whole held left (Ok (Some p)) = pieces_of limit whole ≡ piece.Whol
 Finds limit whole held left (Err stop.Read) = whole ≡ held ++ left
 Finds limit whole held left (Err stop.Long) = pieces_of limit whole ≡ piece.TooLong ∷ []
 Finds limit whole held left (Err stop.Much) = pieces_of limit whole ≡ piece.TooMuch ∷ []
+
+-- the count of the source's faults rises where it could not be read, and nowhere else
+abbrev pub FindCount : ℕ → ℕ → Result (Option (ℕ × ℕ)) Stop → Type 0
+FindCount before now (Ok o) = now ≡ before
+FindCount before now (Err stop.Read) = RoseByOne before now
+FindCount before now (Err stop.Long) = now ≡ before
+FindCount before now (Err stop.Much) = now ≡ before

@@ -1,6 +1,7 @@
 -- Sources and sinks as their callers see them.
 use Rattle.std.specs.Prelude.{◌≡◌, ℕ, ◌+◌, ◌-◌, ◌^◌, ℤ, pos, negsuc, List, ◌++◌, length, take, drop, Option, Result, Ok, Err, Bool, true, false, nat_eq, min}
 use Rattle.std.specs.List.{list_any}
+use Rattle.ax_base.specs.Outside.{Counts}
 use Rattle.ax_base.specs.declared.outside.Failed.{Failed}
 use Rattle.ax_base.specs.declared.outside.SinkFault.{SinkFault}
 use Rattle.ax_base.specs.declared.outside.SinkFault.TheVariants as fault
@@ -27,6 +28,10 @@ pub record Script : Type 0 where
   pub faults : ℕ
   -- how often memory was short
   pub short : ℕ
+
+-- the counts of a sink that goes by a script
+abbrev pub counts_of : Script → Counts
+counts_of s = record { faults = s.faults; short = s.short }
 
 -- bytes in memory that come or go by a script
 pub record Scripted : Type 0 where

@@ -1,7 +1,7 @@
 //! Where the next line ends.
-ghost use Rattle.std.specs.Prelude.{◌≡◌, ◌+◌, ◌-◌, ◌≤◌, ◌<◌, ◌++◌, ◌∷◌, ◌^◌, ℕ, true, length, drop, take, MatchOption, IsErrOf, slice_index};
-ghost use Rattle.ax_base.specs.Outside.{Rose, Told};
-ghost use Rattle.ax_base.specs.Lines.{no_feed, NothingLeft, Sees, IsIn, Finds, Grows};
+ghost use Rattle.std.specs.Prelude.{◌≡◌, ◌+◌, ◌-◌, ◌≤◌, ◌<◌, ◌++◌, ◌∷◌, ◌^◌, ℕ, true, length, drop, take, MatchOption, slice_index};
+ghost use Rattle.ax_base.specs.Outside.{Told};
+ghost use Rattle.ax_base.specs.Lines.{no_feed, NothingLeft, Sees, IsIn, Finds, Grows, FindCount};
 
 use crate::Source;
 use crate::window::{PIECE, Window};
@@ -84,12 +84,13 @@ pub fn find<S: Source>(
     input: &mut S,
     limit: u64,
 ) -> Result<Option<(usize, usize)>, Stop>
-    requires { limit < 2 ^ 63 }
+    requires small { limit < 2 ^ 63 }
+    requires near { length window.old ≤ limit + 1 }
     ensures within { IsIn (NothingLeft (S.left input.old) (S.left input.new)) window.new limit result }
     ensures grown { Grows (S.left input.old) (S.left input.new) window.old window.new }
     ensures told { Told (S.left input.old) (S.left input.new) (λ a b. Finds limit (window.old ++ a) window.new b result) }
-    ensures faults { S.faults input.old ≤ S.faults input.new }
-    ensures cause { IsErrOf result Stop.Read → Rose (S.faults input.old) (S.faults input.new) }
+    ensures count { FindCount (S.faults input.old) (S.faults input.new) result }
+    ensures near { length window.new ≤ limit + 1 }
 {
     let mut from = 0;
     loop {

@@ -3,9 +3,9 @@
 //! A line ends with a line feed (LF, 0x0A) or with the end of the input. Lines are numbered from 1,
 //! and every line counts, blank ones too.
 ghost use Rattle.std.specs.Prelude.{◌≡◌, ◌+◌, ◌≤◌, ◌<◌, ◌^◌, ◌++◌, ℕ, true, false, length, IfOk, OnErr, OnOk, IsTrue, IfSome, IsErrOf, ◌↔◌, []};
-ghost use Rattle.ax_base.specs.Outside.{Rose, Told};
+ghost use Rattle.ax_base.specs.Outside.{Told};
 ghost use Rattle.ax_base.specs.Lines.{no_feed};
-ghost use Rattle.ax_base.specs.Given.{ahead, Gives, Advances, IsReadFault, ReadsMore};
+ghost use Rattle.ax_base.specs.Given.{ahead, Gives, Advances, IsReadFault, ReadsMore, LineCount, StaysNear};
 
 use crate::find::{Stop, find};
 use crate::lists::{Bytes, Duplicate};
@@ -67,14 +67,14 @@ pub struct Lines {
 }
 
 impl Model for Lines {
-    ghost use Rattle.std.specs.Prelude.{◌+◌, ◌<◌, ◌^◌};
+    ghost use Rattle.std.specs.Prelude.{◌+◌, ◌≤◌, ◌<◌, ◌^◌, length};
     ghost use Rattle.ax_base.specs.Reader.{Reader};
 
     ghost Value = { Reader };
 
     ghost view = { λ s. record { held = s.window; limit = s.limit; number = s.number; failed = s.failed } };
 
-    ghost invariant = { λ s. s.number + s.limit < 2 ^ 63 };
+    ghost invariant = { λ s. (s.number + s.limit < 2 ^ 63) × (length s.window ≤ s.limit + 1) };
 }
 
 impl Lines {
@@ -120,8 +120,8 @@ impl Lines {
             (λ a b. Gives (ahead self.old a) (ahead self.new b) (self.new.held ++ b) result) }
         ensures read_here { ReadsMore (S.left input.old) (S.left input.new) self.old self.new result }
         ensures steps { Advances self.old self.new result }
-        ensures faults { S.faults input.old ≤ S.faults input.new }
-        ensures cause { IsReadFault result → Rose (S.faults input.old) (S.faults input.new) }
+        ensures count { LineCount (S.faults input.old) (S.faults input.new) result }
+        ensures near { StaysNear self.new result }
         ensures waits { IsReadFault result → no_feed self.new.held ≡ true }
     {
         match find(&mut self.window, input, self.limit) {

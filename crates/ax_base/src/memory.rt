@@ -1,9 +1,10 @@
 //! Sources and sinks in memory.
-ghost use Rattle.std.specs.Prelude.{◌≡◌, ◌≤◌, ◌<◌, ◌++◌, if◌then◌else◌, [], ℕ, List, Some, length, take, drop, IfOk, OnErr, min};
+ghost use Rattle.std.specs.Prelude.{◌≡◌, ◌≤◌, ◌<◌, ◌++◌, if◌then◌else◌, [], ℕ, List, Some, None, length, take, drop, IfOk, IsOkAnd, OnErr, min};
 ghost use Rattle.std.specs.Io.KnownBytes.{Consumes, Appends, Keeps, IsAtEnd};
 ghost use Rattle.std.specs.List.{list_any};
-ghost use Rattle.ax_base.specs.Outside.{Rose, HasCause};
-ghost use Rattle.ax_base.specs.Sinks.{Written, Scripted, Script, ReadsBy, WritesBy, names_call, fails_next, called, failed};
+ghost use Rattle.std.specs.Bool.{OnTrue, OnFalse};
+ghost use Rattle.ax_base.specs.Outside.{RoseByOne, ReadCount, WriteCounts};
+ghost use Rattle.ax_base.specs.Sinks.{Written, Scripted, Script, counts_of, ReadsBy, WritesBy, names_call, fails_next, called, failed};
 
 use crate::lists::{Bytes, Nums};
 use crate::outside::{Failed, NoMemory, Sink, SinkFault, Source};
@@ -54,7 +55,17 @@ impl Source for SureSource {
 
     ghost faults = { λ s. 0 };
 
-    fn read(&mut self, buf: &mut [u8]) -> Result<usize, Failed> {
+    /// Gives as many bytes as the room takes and are left. It never fails.
+    fn read(&mut self, buf: &mut [u8]) -> Result<usize, Failed>
+        requires { 0 < length buf.old }
+        ensures bound { IfOk result (λ n. n ≤ length buf.old) }
+        ensures taken { IfOk result (λ n. Consumes (Some self.old) (Some self.new) (take n buf.new)) }
+        ensures rest { IfOk result (λ n. drop n buf.new ≡ drop n buf.old) }
+        ensures end { IfOk result (λ n. n ≡ 0 → IsAtEnd (Some self.old)) }
+        ensures kept { OnErr result (Keeps (Some self.old) (Some self.new)) }
+        ensures count { ReadCount 0 0 result }
+        ensures all { IsOkAnd result (λ n. n ≡ min (length buf.old) (length self.old)) }
+    {
         let n = give(&self.bytes.as_slice()[self.at..], buf, buf.len());
         self.at += n;
         Ok(n)
@@ -101,9 +112,9 @@ impl SureSink {
 impl Sink for SureSink {
     ghost holds = { λ s. Some s.bytes };
 
-    ghost faults = { λ s. 0 };
+    ghost counts = { λ s. record { faults = 0; short = s.short } };
 
-    ghost short = { λ s. s.short };
+    ghost base = { λ s. None };
 
     fn write(&mut self, piece: &[u8]) -> Result<usize, SinkFault> {
         match self.bytes.extend_from_slice(piece) {
@@ -165,7 +176,9 @@ impl Calls {
     fn begin(&mut self) -> bool
         ensures fails { result ≡ fails_next self.old }
         ensures counted { self.new ≡ (if fails_next self.old then failed self.old else called self.old) }
-        ensures count { self.old.faults ≤ self.new.faults }
+        ensures count { OnFalse result (self.new.faults ≡ self.old.faults) }
+        ensures rose { OnTrue result (RoseByOne self.old.faults self.new.faults) }
+        ensures short { self.new.short ≡ self.old.short }
     {
         self.calls = self.calls.saturating_add(1);
         let fails = is_failing(self.failing.as_slice(), self.calls);
@@ -228,8 +241,7 @@ impl Source for MemSource {
         ensures rest { IfOk result (λ n. drop n buf.new ≡ drop n buf.old) }
         ensures end { IfOk result (λ n. n ≡ 0 → IsAtEnd (Some self.old.bytes)) }
         ensures kept { OnErr result (Keeps (Some self.old.bytes) (Some self.new.bytes)) }
-        ensures count { self.old.script.faults ≤ self.new.script.faults }
-        ensures cause { OnErr result (Rose self.old.script.faults self.new.script.faults) }
+        ensures count { ReadCount self.old.script.faults self.new.script.faults result }
         ensures by_script { ReadsBy self.old self.new (length buf.old) result }
     {
         if self.calls.begin() {
@@ -287,9 +299,9 @@ impl MemSink {
 impl Sink for MemSink {
     ghost holds = { λ s. Some s.bytes };
 
-    ghost faults = { λ s. s.script.faults };
+    ghost counts = { λ s. counts_of s.script };
 
-    ghost short = { λ s. s.script.short };
+    ghost base = { λ s. None };
 
     /// Takes as many bytes as `most` and the piece allow. It fails exactly where the number of the
     /// call stands in the list of those that fail.
@@ -299,9 +311,7 @@ impl Sink for MemSink {
         ensures bound { IfOk result (λ n. n ≤ length piece.now) }
         ensures taken { IfOk result (λ n. Appends (Some self.old.bytes) (Some self.new.bytes) (take n piece.now)) }
         ensures kept { OnErr result (Keeps (Some self.old.bytes) (Some self.new.bytes)) }
-        ensures count { self.old.script.faults ≤ self.new.script.faults }
-        ensures short_count { self.old.script.short ≤ self.new.script.short }
-        ensures cause { HasCause self.old.script.faults self.new.script.faults self.old.script.short self.new.script.short result }
+        ensures counts { WriteCounts (counts_of self.old.script) (counts_of self.new.script) result }
         ensures by_script { WritesBy self.old self.new piece.now result }
     {
         if self.calls.begin() {

@@ -1,5 +1,5 @@
 //! A reader as a source, and a writer as a sink.
-ghost use Rattle.std.specs.Prelude.{◌≡◌};
+ghost use Rattle.std.specs.Prelude.{◌≡◌, None};
 
 use crate::outside::{Failed, Sink, SinkFault, Source};
 use std::io::{Read, Write};
@@ -82,9 +82,9 @@ impl<W: Write> WriteSink<W> {
 impl<W: Write> Sink for WriteSink<W> {
     ghost holds = { λ s. s.bytes };
 
-    ghost faults = { λ s. s.faults };
+    ghost counts = { λ s. record { faults = s.faults; short = 0 } };
 
-    ghost short = { λ s. 0 };
+    ghost base = { λ s. None };
 
     fn write(&mut self, piece: &[u8]) -> Result<usize, SinkFault> {
         match self.inner.write(piece) {

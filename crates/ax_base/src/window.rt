@@ -1,7 +1,7 @@
 //! Bytes that were read and not yet given.
 ghost use Rattle.std.specs.Prelude.{◌≡◌, ◌+◌, ◌-◌, ◌≤◌, ◌<◌, [], ◌++◌, length, drop, take, IfOk, OnErr};
 ghost use Rattle.std.specs.Io.KnownBytes.{Consumes, Keeps, IsAtEnd};
-ghost use Rattle.ax_base.specs.Outside.{Rose};
+ghost use Rattle.ax_base.specs.Outside.{ReadCount};
 
 use crate::{Failed, NoMemory, Source};
 use std::alloc::Global;
@@ -65,14 +65,13 @@ impl Window {
         requires some { 0 < ask }
         requires room { length self.old + ask ≤ 131072 }
         ensures grown { IfOk result (λ n. self.new ≡ self.old ++ drop (length self.old) self.new) }
-        ensures count { IfOk result (λ n. length self.new ≡ length self.old + n) }
+        ensures size { IfOk result (λ n. length self.new ≡ length self.old + n) }
         ensures bound { IfOk result (λ n. n ≤ ask) }
         ensures taken { IfOk result (λ n. Consumes (S.left input.old) (S.left input.new) (drop (length self.old) self.new)) }
         ensures end { IfOk result (λ n. n ≡ 0 → IsAtEnd (S.left input.old)) }
         ensures err { OnErr result (self.new ≡ self.old) }
         ensures kept { OnErr result (Keeps (S.left input.old) (S.left input.new)) }
-        ensures faults { S.faults input.old ≤ S.faults input.new }
-        ensures cause { OnErr result (Rose (S.faults input.old) (S.faults input.new)) }
+        ensures count { ReadCount (S.faults input.old) (S.faults input.new) result }
     {
         let held = self.to - self.from;
         let from = self.from;
@@ -102,8 +101,7 @@ fn refill<S: Source>(
     ensures taken { IfOk result (λ n. Consumes (S.left input.old) (S.left input.new) (take n (drop (to - from) bytes.new))) }
     ensures end { IfOk result (λ n. n ≡ 0 → IsAtEnd (S.left input.old)) }
     ensures kept { OnErr result (Keeps (S.left input.old) (S.left input.new)) }
-    ensures faults { S.faults input.old ≤ S.faults input.new }
-    ensures cause { OnErr result (Rose (S.faults input.old) (S.faults input.new)) }
+    ensures count { ReadCount (S.faults input.old) (S.faults input.new) result }
 {
     let held = to - from;
     bytes.copy_within(from..to, 0);

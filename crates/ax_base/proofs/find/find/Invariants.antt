@@ -1,4 +1,4 @@
-use Rattle.std.proofs.Common.{◌≡◌, ◌-◌, ◌≤◌, ◌++◌, true, length, take}
+use Rattle.std.proofs.Common.{◌≡◌, ◌-◌, ◌≤◌, ◌++◌, ◌+◌, true, length, take}
 use Rattle.ax_base.specs.Lines.{no_feed, Grows}
 use Rattle.ax_base.specs.Outside.{Told}
 use Rattle.ax_base.proofs.find.find.Given as goal
@@ -9,7 +9,8 @@ invariant-loop-n g l = record {
   none : no_feed (take l.from l.window) ≡ true;
   same : Told (g.S.Source.left l.fn.input) (g.S.Source.left l.input) (λ a b. l.fn.window ++ a ≡ l.window ++ b);
   grown : Grows (g.S.Source.left l.fn.input) (g.S.Source.left l.input) l.fn.window l.window;
-  faults : g.S.Source.faults l.fn.input ≤ g.S.Source.faults l.input;
+  count : g.S.Source.faults l.input ≡ g.S.Source.faults l.fn.input;
+  near : length l.window ≤ l.limit + 1;
 }
 
 abbrev pub decreases-loop-n : goal.decreases-loop-n
