@@ -1,14 +1,15 @@
 -- A key that sets its next timer whenever it fires stops at the bound.
-use Rattle.std.proofs.Common.{◌≡◌, ℕ, zero, suc, ◌+◌, ◌≤◌, ◌<◌, ◌^◌, ℤ, pos, int_le, List, [], ◌∷◌, None, codes, refl, ap, ◌∙◌, arith, w64, FitsSigned, le-leb}
+use Rattle.std.proofs.Common.{◌≡◌, ℕ, zero, suc, ◌+◌, ◌≤◌, ◌<◌, ◌^◌, ℤ, pos, int_le, List, [], ◌∷◌, codes, refl, ap, ◌∙◌, arith, w64, FitsSigned, le-leb}
 use Rattle.std.specs.Int.{int_wrapping_add}
 use Rattle.std.proofs.lemmas.Bool.{cond-true}
 use Rattle.std.proofs.lemmas.Int.{wrapping_add_is, int_wrap_fits, ints}
-use Rattle.ax_text.specs.Cells.{Value}
 use Rattle.ax_text.specs.Exprs.{apply_op}
 use Rattle.ax_machine.specs.Firings.{most_firings}
+use Rattle.ax_text.specs.KeyStates.{KeyState}
+use Rattle.ax_text.specs.Jobs.{row_job, firing_job}
 use Rattle.ax_text.specs.Times.{insert_time, later_times}
-use Rattle.ax_machine.specs.Sync.{without_least, firing_run, sync}
-use Rattle.ax_machine.specs.KeySync.{Said, said_after, fire_first, key_fires, KeyPlain}
+use Rattle.ax_machine.specs.Sync.{without_least, first_wm, sync}
+use Rattle.ax_machine.specs.KeySync.{Said, ran, fire_first, key_fires, untold}
 use Rattle.ax_machine.specs.Examples.{ticking, many_ticks}
 use Rattle.ax_machine.proofs.KeyLemmas.{is_projected}
 
@@ -21,7 +22,7 @@ next_time t small =
 
 -- what a key has behind the firing of its timer at t
 ticked : ℕ → ℕ → Said → Said
-ticked w t s = said_after (without_least s.state) (firing_run ticking (pos w) s.state (pos t)) s
+ticked w t s = ran ticking (firing_job (pos w) (pos t)) (without_least s.state) s
 
 next_tick : (w t : ℕ) (s : Said) → t < 2 ^ 62 → s.state.times ≡ pos t ∷ [] → (ticked w t s).state.times ≡ pos (t + 1) ∷ []
 unfolding apply_op ticked
@@ -47,7 +48,7 @@ most = refl
 
 pub ticks_to_the_bound : ((sync 128 ticking many_ticks).map (codes "a")).times ≡ pos 65536 ∷ []
 ticks_to_the_bound =
-    let before : Said = record { state = record { cells = λ i. Value None; times = pos 0 ∷ [] }; lines = [] } in
-    ap (λ (s : KeyPlain). s.said.state.times) (is_projected 128 ticking (codes "a") many_ticks)
+    let before : Said = ran ticking (row_job first_wm (pos 1) (pos 0 ∷ [])) (untold ticking).state (untold ticking) in
+    ap (λ (s : KeyState). s.times) (is_projected 128 ticking (codes "a") many_ticks).state
     ∙ ticks 100000 most_firings 0 before (omega arith) (omega (arith, most)) refl
     ∙ ap (λ (i : ℕ). pos i ∷ []) (omega (arith, most))

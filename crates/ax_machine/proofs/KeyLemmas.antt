@@ -1,5 +1,5 @@
 -- What the plain thread does to one key is what the thread of that key alone does.
-use Rattle.std.proofs.Common.{◌≡◌, ℕ, zero, suc, ◌*◌, ◌-◌, ◌≤◌, ◌<◌, ℤ, int_le, int_lt, List, [], ◌∷◌, ◌++◌, length, Bool, true, false, cond, Option, Some, None, Ordering, Less, Equal, Greater, refl, sym, ap, ap₂, ◌∙◌, subst, arith, append-nil, ◌⊎◌, inl, inr, ⊎_elim}
+use Rattle.std.proofs.Common.{◌≡◌, ℕ, zero, suc, ◌*◌, ◌-◌, ◌≤◌, ◌<◌, ℤ, int_le, int_lt, List, [], ◌∷◌, ◌++◌, length, Bool, true, false, cond, Option, Some, None, Ordering, Less, Equal, Greater, refl, sym, ap, ◌∙◌, subst, arith, append_assoc, append-nil, ◌⊎◌, inl, inr, ⊎_elim}
 use Rattle.std.specs.Str.{bytes_eq}
 use Rattle.std.specs.List.{list_any}
 use Rattle.std.specs.BTreeSet.{insert_key}
@@ -10,12 +10,13 @@ use Rattle.ax_keys.specs.Keys.{key_cmp}
 use Rattle.ax_text.specs.KeyStates.{KeyState}
 use Rattle.ax_text.specs.Run.{World, state_after}
 use Rattle.ax_text.specs.Programs.{Program}
+use Rattle.ax_text.specs.Jobs.{Job, Group, row_job, firing_job, job_run, group_of, lines_in}
 use Rattle.ax_machine.specs.Entries.{Key, Marker, Watermark, Entry, lines_of, says}
 use Rattle.ax_machine.specs.Entries as entry
 use Rattle.ax_machine.specs.Events.{Event, Row, Mark, Barrier}
 use Rattle.ax_machine.specs.Firings.{Due, most_firings, due_of, candidate, next_due, one_less, total}
-use Rattle.ax_machine.specs.Sync.{Plain, put_at, row_run, firing_run, does, knows, row_step, without_least, fire, fire_next, fire_all, all_fired, at_watermark, writes, block_of, plain_step, plain_steps, plain_start}
-use Rattle.ax_machine.specs.KeySync.{Said, said_after, fire_first, key_fires, KeyPlain, key_row, key_step, key_steps, key_in, IsProjected}
+use Rattle.ax_machine.specs.Sync.{Plain, put_at, does, knows, row_step, without_least, fire, fire_next, fire_all, all_fired, at_watermark, writes, watermark_step, block_of, plain_step, plain_steps, plain_start, first_wm, sync}
+use Rattle.ax_machine.specs.KeySync.{Said, ran, fire_first, key_fires, KeyPlain, key_row, key_step, key_steps, untold, key_sync, IsProjected}
 use Rattle.ax_machine.proofs.FrontLemmas.{lines_of-append}
 use Rattle.ax_machine.proofs.FiringLemmas.{same_key, key_is, among, has_head, has_tail, IsOwn, candidate_own, IsNext, next_found, next_none, in_total, total_most, total_lt}
 
@@ -23,127 +24,169 @@ by_cases : {A : Type 0} (b : Bool) → (b ≡ true → A) → (b ≡ false → A
 by_cases true p q = p refl
 by_cases false p q = q refl
 
--- what a key has and its lines
-abbrev said_in : Key → Plain → Said
-said_in k s = record { state = s.map k; lines = lines_of k s.entries }
+-- what a key has, and its lines so far
+record Flat : Type 0 where
+  state : KeyState
+  lines : List (List ℤ)
 
-said_path : {s t : Said} → s.state ≡ t.state → s.lines ≡ t.lines → s ≡ t
-said_path p q = λ i. record { state = p i; lines = q i }
+flat_path : {s t : Flat} → s.state ≡ t.state → s.lines ≡ t.lines → s ≡ t
+flat_path p q = λ i. record { state = p i; lines = q i }
 
-key_path : {s t : KeyPlain} → s.wm ≡ t.wm → s.said ≡ t.said → s ≡ t
-key_path p q = λ i. record { wm = p i; said = q i }
+-- of a key in the plain thread of all keys, and in its own
+abbrev flat_in : Key → Plain → Flat
+flat_in k s = record { state = s.map k; lines = lines_of k s.entries }
+
+abbrev flat_of : Said → Flat
+flat_of x = record { state = x.state; lines = lines_in x.groups }
+
+abbrev flat_after : KeyState → World → Flat → Flat
+flat_after state w f = record { state = state_after state w; lines = f.lines ++ w.talk.lines }
 
 -- lines of a key, and of another one
-lines_of_says : (k : Key) (lines : List (List ℤ)) → lines_of k (says k lines) ≡ lines
+pub lines_of_says : (k : Key) (lines : List (List ℤ)) → lines_of k (says k lines) ≡ lines
 lines_of_says k [] = refl
 lines_of_says k (line ∷ lines) =
     cond-true (bytes_eq k k) (line ∷ lines_of k (says k lines)) (lines_of k (says k lines)) (same_key k)
     ∙ ap (λ (xs : List (List ℤ)). line ∷ xs) (lines_of_says k lines)
 
-lines_of_others : (k j : Key) (lines : List (List ℤ)) → bytes_eq j k ≡ false → lines_of k (says j lines) ≡ []
+pub lines_of_others : (k j : Key) (lines : List (List ℤ)) → bytes_eq j k ≡ false → lines_of k (says j lines) ≡ []
 lines_of_others k j [] h = refl
 lines_of_others k j (line ∷ lines) h =
     cond-false (bytes_eq j k) (line ∷ lines_of k (says j lines)) (lines_of k (says j lines)) h ∙ lines_of_others k j lines h
 
-lines_of_marked : (k : Key) (es : List Entry) (m : Marker) → lines_of k (es ++ entry.Mark m ∷ []) ≡ lines_of k es
+pub lines_of_marked : (k : Key) (es : List Entry) (m : Marker) → lines_of k (es ++ entry.Mark m ∷ []) ≡ lines_of k es
 lines_of_marked k es m = lines_of-append k es (entry.Mark m ∷ []) ∙ append-nil (lines_of k es)
 
--- a handler's run of the key itself, and of another key
-does_own : (k : Key) (state : KeyState) (w : World) (s : Plain) → said_in k (does k state w s) ≡ said_after state w (said_in k s)
-does_own k state w s = said_path
-    (cond-true (bytes_eq k k) (state_after state w) (s.map k) (same_key k))
-    (lines_of-append k s.entries (says k w.talk.lines) ∙ ap (λ (xs : List (List ℤ)). lines_of k s.entries ++ xs) (lines_of_says k w.talk.lines))
+pub lines_in-append : (xs ys : List Group) → lines_in (xs ++ ys) ≡ lines_in xs ++ lines_in ys
+lines_in-append [] ys = refl
+lines_in-append (g ∷ xs) ys = ap (λ (ls : List (List ℤ)). g.lines ++ ls) (lines_in-append xs ys) ∙ sym (append_assoc g.lines (lines_in xs) (lines_in ys))
 
-does_other : (k j : Key) (state : KeyState) (w : World) (s : Plain) → bytes_eq j k ≡ false → said_in k (does j state w s) ≡ said_in k s
-does_other k j state w s h = said_path
+-- a job that ran on the key itself, and on another key
+ran_flat : (p : Program) (j : Job) (state : KeyState) (x : Said) → flat_of (ran p j state x) ≡ flat_after state (job_run p j state.cells) (flat_of x)
+ran_flat p j state x = flat_path refl
+    (lines_in-append x.groups (group_of j (job_run p j state.cells) ∷ [])
+    ∙ ap (λ (ls : List (List ℤ)). lines_in x.groups ++ ls) (append-nil (job_run p j state.cells).talk.lines))
+
+does_own : (k : Key) (state : KeyState) (w : World) (s : Plain) → flat_in k (does k state w s) ≡ flat_after state w (flat_in k s)
+does_own k state w s = flat_path
+    (cond-true (bytes_eq k k) (state_after state w) (s.map k) (same_key k))
+    (lines_of-append k s.entries (says k w.talk.lines) ∙ ap (λ (ls : List (List ℤ)). lines_of k s.entries ++ ls) (lines_of_says k w.talk.lines))
+
+does_other : (k j : Key) (state : KeyState) (w : World) (s : Plain) → bytes_eq j k ≡ false → flat_in k (does j state w s) ≡ flat_in k s
+does_other k j state w s h = flat_path
     (cond-false (bytes_eq j k) (state_after state w) (s.map k) h)
-    (lines_of-append k s.entries (says j w.talk.lines) ∙ ap (λ (xs : List (List ℤ)). lines_of k s.entries ++ xs) (lines_of_others k j w.talk.lines h) ∙ append-nil (lines_of k s.entries))
+    (lines_of-append k s.entries (says j w.talk.lines) ∙ ap (λ (ls : List (List ℤ)). lines_of k s.entries ++ ls) (lines_of_others k j w.talk.lines h) ∙ append-nil (lines_of k s.entries))
+
+-- where the key has the same in both threads, it has the same behind a job, which begins with some part of that
+ran_own : (p : Program) (k : Key) (j : Job) (first : KeyState → KeyState) (s : Plain) (x : Said) → flat_in k s ≡ flat_of x
+    → flat_in k (does k (first (s.map k)) (job_run p j (first (s.map k)).cells) s) ≡ flat_of (ran p j (first x.state) x)
+ran_own p k j first s x h =
+    does_own k (first (s.map k)) (job_run p j (first (s.map k)).cells) s
+    ∙ ap (λ (f : Flat). flat_after (first f.state) (job_run p j (first f.state).cells) f) h
+    ∙ sym (ran_flat p j (first x.state) x)
 
 -- the first timer of a key that is due, or none
-first_fires : (p : Program) (w : ℤ) (go : Said → Said) (k : Key) (times : List ℤ) (d : Due) (s : Said) → due_of w k times ≡ Some d
-    → fire_first p w go times s ≡ go (said_after (without_least s.state) (firing_run p w s.state d.time) s)
-first_fires p w go k [] d s e = absurd (cc)
-first_fires p w go k (t ∷ ts) d s e = of (int_le t w) e
+first_fires : (p : Program) (w : ℤ) (go : Said → Said) (k : Key) (times : List ℤ) (d : Due) (x : Said) → due_of w k times ≡ Some d
+    → fire_first p w go times x ≡ go (ran p (firing_job w d.time) (without_least x.state) x)
+first_fires p w go k [] d x e = absurd (cc)
+first_fires p w go k (t ∷ ts) d x e = of (int_le t w) e
   where
     of : (b : Bool) → cond b (Some (record { time = t; key = k })) None ≡ Some d
-        → cond b (go (said_after (without_least s.state) (firing_run p w s.state t) s)) s ≡ go (said_after (without_least s.state) (firing_run p w s.state d.time) s)
+        → cond b (go (ran p (firing_job w t) (without_least x.state) x)) x ≡ go (ran p (firing_job w d.time) (without_least x.state) x)
     of true e = let same : record { time = t; key = k } ≡ d = cc in
-        ap (λ (x : Due). go (said_after (without_least s.state) (firing_run p w s.state x.time) s)) same
+        ap (λ (y : Due). go (ran p (firing_job w y.time) (without_least x.state) x)) same
     of false e = absurd (cc)
 
-none_fires : (p : Program) (w : ℤ) (go : Said → Said) (k : Key) (times : List ℤ) (s : Said) → due_of w k times ≡ None → fire_first p w go times s ≡ s
-none_fires p w go k [] s e = refl
-none_fires p w go k (t ∷ ts) s e = of (int_le t w) e
+none_fires : (p : Program) (w : ℤ) (go : Said → Said) (k : Key) (times : List ℤ) (x : Said) → due_of w k times ≡ None → fire_first p w go times x ≡ x
+none_fires p w go k [] x e = refl
+none_fires p w go k (t ∷ ts) x e = of (int_le t w) e
   where
-    of : (b : Bool) → cond {A = Option Due} b (Some (record { time = t; key = k })) None ≡ None → cond b (go (said_after (without_least s.state) (firing_run p w s.state t) s)) s ≡ s
+    of : (b : Bool) → cond {A = Option Due} b (Some (record { time = t; key = k })) None ≡ None → cond b (go (ran p (firing_job w t) (without_least x.state) x)) x ≡ x
     of true e = absurd (cc)
     of false e = refl
 
-idle : (p : Program) (w : ℤ) (n : ℕ) (k : Key) (s : Said) → candidate w n k s.state ≡ None → key_fires p w n s ≡ s
-idle p w zero k s e = refl
-idle p w (suc n) k s e = none_fires p w (key_fires p w n) k s.state.times s e
+idle : (p : Program) (w : ℤ) (n : ℕ) (k : Key) (x : Said) → candidate w n k x.state ≡ None → key_fires p w n x ≡ x
+idle p w zero k x e = refl
+idle p w (suc n) k x e = none_fires p w (key_fires p w n) k x.state.times x e
 
-pub not_due : (p : Program) (w : ℤ) (n : ℕ) (k : Key) (s : Said) → due_of w k s.state.times ≡ None → key_fires p w n s ≡ s
-not_due p w zero k s e = refl
-not_due p w (suc n) k s e = none_fires p w (key_fires p w n) k s.state.times s e
+pub not_due : (p : Program) (w : ℤ) (n : ℕ) (k : Key) (x : Said) → due_of w k x.state.times ≡ None → key_fires p w n x ≡ x
+not_due p w zero k x e = refl
+not_due p w (suc n) k x e = none_fires p w (key_fires p w n) k x.state.times x e
 
 -- a key that isn't among the keys has no timer that is due
 abbrev IsKnown : Key → Plain → Type 0
 IsKnown k s = (list_any (bytes_eq k) s.keys ≡ true) ⊎ (due_of s.wm k (s.map k).times ≡ None)
 
-fired_own : (p : Program) (k : Key) (n : ℕ) (d : Due) (s : Plain) → d.key ≡ k → 0 < n → due_of s.wm k (s.map k).times ≡ Some d
-    → key_fires p s.wm (n - 1) (said_in k (fire p d s)) ≡ key_fires p s.wm n (said_in k s)
-fired_own p k zero d s same left e = absurd (omega arith)
-fired_own p k (suc n) d s same left e =
-    let back : suc n - 1 ≡ n = omega arith in
-    let ran : said_in k (fire p d s) ≡ said_after (without_least (s.map k)) (firing_run p s.wm (s.map k) d.time) (said_in k s) =
-    subst (λ (j : Key). said_in j (fire p d s) ≡ said_after (without_least (s.map j)) (firing_run p s.wm (s.map j) d.time) (said_in j s)) same
-    (does_own d.key (without_least (s.map d.key)) (firing_run p s.wm (s.map d.key) d.time) s) in
-    ap₂ (key_fires p s.wm) back ran ∙ sym (first_fires p s.wm (key_fires p s.wm n) k (s.map k).times d (said_in k s) e)
-
--- a firing, seen from a key
-fired : (p : Program) (k : Key) (more : Key → ℕ) (d : Due) (s : Plain) → IsNext s.wm s.keys more s.map d
-    → key_fires p s.wm (one_less more d.key k) (said_in k (fire p d s)) ≡ key_fires p s.wm (more k) (said_in k s)
-fired p k more d s it = by_cases (bytes_eq d.key k)
-    (λ x. let same : d.key ≡ k = key_is d.key k x in
-    let own : IsOwn s.wm (more d.key) d.key (s.map d.key).times d = candidate_own s.wm (more d.key) d.key (s.map d.key) d it.own in
-    ap (λ (n : ℕ). key_fires p s.wm n (said_in k (fire p d s))) (cond-true (bytes_eq d.key k) (more k - 1) (more k) x)
-    ∙ fired_own p k (more k) d s same (subst (λ (j : Key). 0 < more j) same own.some_left) (subst (λ (j : Key). due_of s.wm j (s.map j).times ≡ Some d) same own.due))
-    (λ x. ap₂ (key_fires p s.wm) (cond-false (bytes_eq d.key k) (more k - 1) (more k) x)
-    (does_other k d.key (without_least (s.map d.key)) (firing_run p s.wm (s.map d.key) d.time) s x))
-
 still_known : (p : Program) (k : Key) (d : Due) (s : Plain) → list_any (bytes_eq d.key) s.keys ≡ true → IsKnown k s → IsKnown k (fire p d s)
 still_known p k d s h (inl e) = inl e
 still_known p k d s h (inr e) = by_cases (bytes_eq d.key k)
-    (λ x. inl (subst (λ (j : Key). list_any (bytes_eq j) s.keys ≡ true) (key_is d.key k x) h))
-    (λ x. inr (ap (λ (it : Said). due_of s.wm k it.state.times) (does_other k d.key (without_least (s.map d.key)) (firing_run p s.wm (s.map d.key) d.time) s x) ∙ e))
+    (λ b. inl (subst (λ (j : Key). list_any (bytes_eq j) s.keys ≡ true) (key_is d.key k b) h))
+    (λ b. inr (ap (λ (f : Flat). due_of s.wm k f.state.times) (does_other k d.key (without_least (s.map d.key)) (job_run p (firing_job s.wm d.time) (s.map d.key).cells) s b) ∙ e))
 
-none_next : (p : Program) (k : Key) (more : Key → ℕ) (s : Plain) → next_due s.wm s.keys more s.map ≡ None → IsKnown k s
-    → said_in k s ≡ key_fires p s.wm (more k) (said_in k s)
-none_next p k more s e (inl h) = sym (idle p s.wm (more k) k (said_in k s) (next_none s.wm s.keys more s.map e k h))
-none_next p k more s e (inr h) = sym (not_due p s.wm (more k) k (said_in k s) h)
+-- a firing, seen from a key that may fire n times more, and then so many times: what it has in its own thread, so that the rest of that is as before
+record IsFired (p : Program) (k : Key) (less n : ℕ) (t : Plain) (x : Said) : Type 0 where
+  said : Said
+  seen : flat_in k t ≡ flat_of said
+  goes_on : key_fires p t.wm less said ≡ key_fires p t.wm n x
 
-none_left : (p : Program) (k : Key) (more : Key → ℕ) (s : Plain) → total s.keys more ≤ 0 → IsKnown k s → said_in k s ≡ key_fires p s.wm (more k) (said_in k s)
-none_left p k more s enough (inl h) =
-    let none : more k ≡ 0 = omega (arith, in_total s.keys more k h) in
-    ap (λ (n : ℕ). key_fires p s.wm n (said_in k s)) (sym none)
-none_left p k more s enough (inr h) = sym (not_due p s.wm (more k) k (said_in k s) h)
+fired_own : (p : Program) (k : Key) (n : ℕ) (d : Due) (s : Plain) (x : Said) → flat_in k s ≡ flat_of x → d.key ≡ k → 0 < n → due_of s.wm k (s.map k).times ≡ Some d
+    → IsFired p k (n - 1) n (fire p d s) x
+fired_own p k zero d s x h same left e = absurd (omega arith)
+fired_own p k (suc n) d s x h same left e = record {
+  said = ran p (firing_job s.wm d.time) (without_least x.state) x;
+  seen = subst (λ (j : Key). flat_in j s ≡ flat_of x → flat_in j (fire p d s) ≡ flat_of (ran p (firing_job s.wm d.time) (without_least x.state) x)) same
+      (ran_own p d.key (firing_job s.wm d.time) without_least s x) h;
+  goes_on =
+      let back : suc n - 1 ≡ n = omega arith in
+      let due : due_of s.wm k x.state.times ≡ Some d = ap (λ (f : Flat). due_of s.wm k f.state.times) (sym h) ∙ e in
+      ap (λ (i : ℕ). key_fires p s.wm i (ran p (firing_job s.wm d.time) (without_least x.state) x)) back
+      ∙ sym (first_fires p s.wm (key_fires p s.wm n) k x.state.times d x due);
+}
 
-fire_step : (p : Program) (fuel : ℕ) (k : Key) (more : Key → ℕ) (s : Plain) → total s.keys more ≤ suc fuel → IsKnown k s
-    → ((less : Key → ℕ) (t : Plain) → total t.keys less ≤ fuel → IsKnown k t → said_in k (fire_all p fuel less t) ≡ key_fires p t.wm (less k) (said_in k t))
-    → (o : Option Due) → next_due s.wm s.keys more s.map ≡ o → said_in k (fire_next p (fire_all p fuel) o more s) ≡ key_fires p s.wm (more k) (said_in k s)
-fire_step p fuel k more s enough known go None e = none_next p k more s e known
-fire_step p fuel k more s enough known go (Some d) e =
+fired : (p : Program) (k : Key) (more : Key → ℕ) (d : Due) (s : Plain) (x : Said) → flat_in k s ≡ flat_of x → IsNext s.wm s.keys more s.map d
+    → IsFired p k (one_less more d.key k) (more k) (fire p d s) x
+fired p k more d s x h it = by_cases (bytes_eq d.key k)
+    (λ b. let same : d.key ≡ k = key_is d.key k b in
+    let own : IsOwn s.wm (more d.key) d.key (s.map d.key).times d = candidate_own s.wm (more d.key) d.key (s.map d.key) d it.own in
+    subst (λ (i : ℕ). IsFired p k i (more k) (fire p d s) x) (sym (cond-true (bytes_eq d.key k) (more k - 1) (more k) b))
+    (fired_own p k (more k) d s x h same (subst (λ (j : Key). 0 < more j) same own.some_left) (subst (λ (j : Key). due_of s.wm j (s.map j).times ≡ Some d) same own.due)))
+    (λ b. record {
+      said = x;
+      seen = does_other k d.key (without_least (s.map d.key)) (job_run p (firing_job s.wm d.time) (s.map d.key).cells) s b ∙ h;
+      goes_on = ap (λ (i : ℕ). key_fires p s.wm i x) (cond-false (bytes_eq d.key k) (more k - 1) (more k) b);
+    })
+
+-- where nothing is left to fire
+none_next : (p : Program) (k : Key) (more : Key → ℕ) (s : Plain) (x : Said) → flat_in k s ≡ flat_of x → next_due s.wm s.keys more s.map ≡ None → IsKnown k s
+    → x ≡ key_fires p s.wm (more k) x
+none_next p k more s x h e (inl known) =
+    sym (idle p s.wm (more k) k x (ap (λ (f : Flat). candidate s.wm (more k) k f.state) (sym h) ∙ next_none s.wm s.keys more s.map e k known))
+none_next p k more s x h e (inr none) = sym (not_due p s.wm (more k) k x (ap (λ (f : Flat). due_of s.wm k f.state.times) (sym h) ∙ none))
+
+none_left : (p : Program) (k : Key) (more : Key → ℕ) (s : Plain) (x : Said) → flat_in k s ≡ flat_of x → total s.keys more ≤ 0 → IsKnown k s
+    → x ≡ key_fires p s.wm (more k) x
+none_left p k more s x h enough (inl known) =
+    let none : more k ≡ 0 = omega (arith, in_total s.keys more k known) in
+    ap (λ (n : ℕ). key_fires p s.wm n x) (sym none)
+none_left p k more s x h enough (inr none) = sym (not_due p s.wm (more k) k x (ap (λ (f : Flat). due_of s.wm k f.state.times) (sym h) ∙ none))
+
+fire_step : (p : Program) (fuel : ℕ) (k : Key) (more : Key → ℕ) (s : Plain) (x : Said) → flat_in k s ≡ flat_of x → total s.keys more ≤ suc fuel → IsKnown k s
+    → ((less : Key → ℕ) (t : Plain) (y : Said) → flat_in k t ≡ flat_of y → total t.keys less ≤ fuel → IsKnown k t → flat_in k (fire_all p fuel less t) ≡ flat_of (key_fires p t.wm (less k) y))
+    → (o : Option Due) → next_due s.wm s.keys more s.map ≡ o → flat_in k (fire_next p (fire_all p fuel) o more s) ≡ flat_of (key_fires p s.wm (more k) x)
+fire_step p fuel k more s x h enough known go None e = h ∙ ap (λ (y : Said). flat_of y) (none_next p k more s x h e known)
+fire_step p fuel k more s x h enough known go (Some d) e =
     let it : IsNext s.wm s.keys more s.map d = next_found s.wm s.keys more s.map d e in
     let own : IsOwn s.wm (more d.key) d.key (s.map d.key).times d = candidate_own s.wm (more d.key) d.key (s.map d.key) d it.own in
     let fewer : total s.keys (one_less more d.key) < total s.keys more = total_lt s.keys more d.key it.known own.some_left in
-    go (one_less more d.key) (fire p d s) (omega arith) (still_known p k d s it.known known) ∙ fired p k more d s it
+    let behind : IsFired p k (one_less more d.key k) (more k) (fire p d s) x = fired p k more d s x h it in
+    go (one_less more d.key) (fire p d s) behind.said behind.seen (omega arith) (still_known p k d s it.known known) ∙ ap (λ (y : Said). flat_of y) behind.goes_on
 
 -- all firings, seen from a key
-fire_all_of : (p : Program) (fuel : ℕ) (k : Key) (more : Key → ℕ) (s : Plain) → total s.keys more ≤ fuel → IsKnown k s
-    → said_in k (fire_all p fuel more s) ≡ key_fires p s.wm (more k) (said_in k s)
-fire_all_of p zero k more s enough known = none_left p k more s enough known
-fire_all_of p (suc n) k more s enough known = fire_step p n k more s enough known (λ less t. fire_all_of p n k less t) (next_due s.wm s.keys more s.map) refl
+fire_all_of : (p : Program) (fuel : ℕ) (k : Key) (more : Key → ℕ) (s : Plain) (x : Said) → flat_in k s ≡ flat_of x → total s.keys more ≤ fuel → IsKnown k s
+    → flat_in k (fire_all p fuel more s) ≡ flat_of (key_fires p s.wm (more k) x)
+fire_all_of p zero k more s x h enough known = h ∙ ap (λ (y : Said). flat_of y) (none_left p k more s x h enough known)
+fire_all_of p (suc n) k more s x h enough known =
+    fire_step p n k more s x h enough known (λ less t y. fire_all_of p n k less t y) (next_due s.wm s.keys more s.map) refl
 
 -- the watermark and the keys stay
 pub record IsSameBeside (s t : Plain) : Type 0 where
@@ -212,7 +255,7 @@ fire_next_covered : (p : Program) (go : (Key → ℕ) → Plain → Plain) (more
 fire_next_covered p go more s goes None e c = c
 fire_next_covered p go more s goes (Some d) e c =
     goes (one_less more d.key) (fire p d s)
-    (covered_put s.keys s.map d.key (state_after (without_least (s.map d.key)) (firing_run p s.wm (s.map d.key) d.time)) (next_found s.wm s.keys more s.map d e).known c)
+    (covered_put s.keys s.map d.key (state_after (without_least (s.map d.key)) (job_run p (firing_job s.wm d.time) (s.map d.key).cells)) (next_found s.wm s.keys more s.map d e).known c)
 
 fire_all_covered : (p : Program) (fuel : ℕ) (more : Key → ℕ) (s : Plain) → AreCovered s.keys s.map → AreCovered s.keys (fire_all p fuel more s).map
 fire_all_covered p zero more s c = c
@@ -224,7 +267,7 @@ covered_if false s t c d = d
 
 pub step_covered : (m : ℕ) (p : Program) (e : Event) (s : Plain) → AreCovered s.keys s.map → AreCovered (plain_step m p e s).keys (plain_step m p e s).map
 step_covered m p (Row j time values) s c =
-    covered_put (insert_key key_cmp s.keys j) s.map j (state_after (s.map j) (row_run p s.wm (s.map j) time values)) (has_inserted j j s.keys (inl refl)) (covered_inserted s.keys s.map j c)
+    covered_put (insert_key key_cmp s.keys j) s.map j (state_after (s.map j) (job_run p (row_job s.wm time values) (s.map j).cells)) (has_inserted j j s.keys (inl refl)) (covered_inserted s.keys s.map j c)
 step_covered m p (Mark w) s c =
     let before : Plain = at_watermark w s in
     covered_if (int_lt s.wm w) (writes (Watermark w) (all_fired p before)) s
@@ -233,40 +276,63 @@ step_covered m p (Mark w) s c =
     c
 step_covered m p (Barrier id) s c = c
 
--- one step, seen from a key
-key_in_if : (b : Bool) (k : Key) (s t : Plain) (x : KeyPlain) → key_in k s ≡ x → key_in k (cond b s t) ≡ cond b x (key_in k t)
-key_in_if true k s t x e = e
-key_in_if false k s t x e = refl
+-- a key has the same in both threads
+pub record IsSeen (k : Key) (s : Plain) (x : KeyPlain) : Type 0 where
+  pub wm : s.wm ≡ x.wm
+  pub said : flat_in k s ≡ flat_of x.said
 
-row_of_key : (p : Program) (k j : Key) (time : ℤ) (values : List ℤ) (s : Plain) → key_in k (row_step p j time values s) ≡ cond (bytes_eq j k) (key_row p time values (key_in k s)) (key_in k s)
-row_of_key p k j time values s = by_cases (bytes_eq j k)
-    (λ x. key_path refl (subst (λ (i : Key). said_in i (row_step p j time values s) ≡ said_after (s.map i) (row_run p s.wm (s.map i) time values) (said_in i s)) (key_is j k x)
-    (does_own j (s.map j) (row_run p s.wm (s.map j) time values) (knows j s)))
-    ∙ sym (cond-true (bytes_eq j k) (key_row p time values (key_in k s)) (key_in k s) x))
-    (λ x. key_path refl (does_other k j (s.map j) (row_run p s.wm (s.map j) time values) (knows j s) x)
-    ∙ sym (cond-false (bytes_eq j k) (key_row p time values (key_in k s)) (key_in k s) x))
+seen_if : (b : Bool) (k : Key) (s t : Plain) (x y : KeyPlain) → IsSeen k s x → IsSeen k t y → IsSeen k (cond b s t) (cond b x y)
+seen_if true k s t x y a c = a
+seen_if false k s t x y a c = c
 
-writes_aside : (k : Key) (m : Marker) (s : Plain) → key_in k (writes m s) ≡ key_in k s
-writes_aside k m s = key_path refl (said_path refl (lines_of_marked k s.entries m))
+row_of_key : (p : Program) (k j : Key) (time : ℤ) (values : List ℤ) (s : Plain) (x : KeyPlain) → IsSeen k s x
+    → IsSeen k (row_step p j time values s) (cond (bytes_eq j k) (key_row p time values x) x)
+row_of_key p k j time values s x h = by_cases (bytes_eq j k)
+    (λ b. subst (λ (y : KeyPlain). IsSeen k (row_step p j time values s) y) (sym (cond-true (bytes_eq j k) (key_row p time values x) x b)) (record {
+      wm = h.wm;
+      said = subst (λ (i : Key). flat_in i s ≡ flat_of x.said → flat_in i (row_step p j time values s) ≡ flat_of (ran p (row_job s.wm time values) x.said.state x.said)) (key_is j k b)
+          (ran_own p j (row_job s.wm time values) (λ y. y) (knows j s) x.said) h.said
+          ∙ ap (λ (w : ℤ). flat_of (ran p (row_job w time values) x.said.state x.said)) h.wm;
+    }))
+    (λ b. subst (λ (y : KeyPlain). IsSeen k (row_step p j time values s) y) (sym (cond-false (bytes_eq j k) (key_row p time values x) x b)) (record {
+      wm = h.wm;
+      said = does_other k j (s.map j) (job_run p (row_job s.wm time values) (s.map j).cells) (knows j s) b ∙ h.said;
+    }))
 
-watermark_of_key : (p : Program) (k : Key) (w : ℤ) (s : Plain) → AreCovered s.keys s.map
-    → key_in k (writes (Watermark w) (all_fired p (at_watermark w s))) ≡ record { wm = w; said = key_fires p w most_firings (said_in k s) }
-watermark_of_key p k w s c =
+writes_aside : (k : Key) (m : Marker) (s : Plain) (x : KeyPlain) → IsSeen k s x → IsSeen k (writes m s) x
+writes_aside k m s x h = record { wm = h.wm; said = flat_path refl (lines_of_marked k s.entries m) ∙ h.said }
+
+watermark_of_key : (p : Program) (k : Key) (w : ℤ) (s : Plain) (x : KeyPlain) → AreCovered s.keys s.map → IsSeen k s x
+    → IsSeen k (writes (Watermark w) (all_fired p (at_watermark w s))) (record { wm = w; said = key_fires p w most_firings x.said })
+watermark_of_key p k w s x c h =
     let before : Plain = at_watermark w s in
-    writes_aside k (Watermark w) (all_fired p before)
-    ∙ key_path (fire_all_beside p (most_firings * length s.keys) (λ k. most_firings) before).wm
-    (fire_all_of p (most_firings * length s.keys) k (λ k. most_firings) before (total_most s.keys most_firings) (covered_known k w s c))
+    writes_aside k (Watermark w) (all_fired p before) (record { wm = w; said = key_fires p w most_firings x.said }) (record {
+      wm = (fire_all_beside p (most_firings * length s.keys) (λ k. most_firings) before).wm;
+      said = fire_all_of p (most_firings * length s.keys) k (λ k. most_firings) before x.said h.said (total_most s.keys most_firings) (covered_known k w s c);
+    })
 
-pub step_of : (m : ℕ) (p : Program) (k : Key) (e : Event) (s : Plain) → AreCovered s.keys s.map → key_in k (plain_step m p e s) ≡ key_step p k e (key_in k s)
-step_of m p k (Row j time values) s c = row_of_key p k j time values s
-step_of m p k (Mark w) s c =
-    key_in_if (int_lt s.wm w) k (writes (Watermark w) (all_fired p (at_watermark w s))) s (record { wm = w; said = key_fires p w most_firings (said_in k s) }) (watermark_of_key p k w s c)
-step_of m p k (Barrier id) s c = writes_aside k (block_of m p id s) s
+pub step_of : (m : ℕ) (p : Program) (k : Key) (e : Event) (s : Plain) (x : KeyPlain) → AreCovered s.keys s.map → IsSeen k s x → IsSeen k (plain_step m p e s) (key_step p k e x)
+step_of m p k (Row j time values) s x c h = row_of_key p k j time values s x h
+step_of m p k (Mark w) s x c h =
+    subst (λ (v : ℤ). IsSeen k (watermark_step p w s) (cond (int_lt v w) (record { wm = w; said = key_fires p w most_firings x.said }) x)) h.wm
+    (seen_if (int_lt s.wm w) k (writes (Watermark w) (all_fired p (at_watermark w s))) s (record { wm = w; said = key_fires p w most_firings x.said }) x (watermark_of_key p k w s x c h) h)
+step_of m p k (Barrier id) s x c h = writes_aside k (block_of m p id s) s x h
 
-pub steps_of : (m : ℕ) (p : Program) (k : Key) (events : List Event) (s : Plain) → AreCovered s.keys s.map → key_in k (plain_steps m p events s) ≡ key_steps p k events (key_in k s)
-steps_of m p k [] s c = refl
-steps_of m p k (e ∷ events) s c =
-    steps_of m p k events (plain_step m p e s) (step_covered m p e s c) ∙ ap (key_steps p k events) (step_of m p k e s c)
+pub steps_of : (m : ℕ) (p : Program) (k : Key) (events : List Event) (s : Plain) (x : KeyPlain) → AreCovered s.keys s.map → IsSeen k s x
+    → IsSeen k (plain_steps m p events s) (key_steps p k events x)
+steps_of m p k [] s x c h = h
+steps_of m p k (e ∷ events) s x c h = steps_of m p k events (plain_step m p e s) (key_step p k e x) (step_covered m p e s c) (step_of m p k e s x c h)
+
+-- at first no key has a timer
+pub start_covered : (p : Program) → AreCovered (plain_start p).keys (plain_start p).map
+start_covered p = record { none = λ j h. refl }
 
 pub is_projected : (m : ℕ) (p : Program) (k : Key) (events : List Event) → IsProjected m p k events
-is_projected m p k events = steps_of m p k events (plain_start p) (record { none = λ j h. refl })
+is_projected m p k events =
+    let same : IsSeen k (sync m p events) (key_sync p k events) =
+    steps_of m p k events (plain_start p) (record { wm = first_wm; said = untold p }) (start_covered p) (record { wm = refl; said = refl }) in
+    record {
+      wm = same.wm;
+      state = ap (λ (f : Flat). f.state) same.said;
+      lines = ap (λ (f : Flat). f.lines) same.said;
+    }

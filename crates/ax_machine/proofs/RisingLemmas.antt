@@ -15,10 +15,11 @@ use Rattle.ax_text.specs.Times.{insert_time, later_times}
 use Rattle.ax_text.specs.KeyStates.{KeyState}
 use Rattle.ax_text.specs.Run.{World, time_after, times_after, state_after}
 use Rattle.ax_text.specs.Programs.{Program}
+use Rattle.ax_text.specs.Jobs.{row_job, firing_job, job_run}
 use Rattle.ax_machine.specs.Entries.{Key, Watermark}
 use Rattle.ax_machine.specs.Events.{Event, Row, Mark, Barrier}
 use Rattle.ax_machine.specs.Firings.{Due, most_firings, next_due, one_less}
-use Rattle.ax_machine.specs.Sync.{Plain, row_run, firing_run, does, knows, without_least, fire, fire_next, fire_all, all_fired, at_watermark, writes, plain_step, plain_steps, plain_start, sync}
+use Rattle.ax_machine.specs.Sync.{Plain, does, knows, without_least, fire, fire_next, fire_all, all_fired, at_watermark, writes, plain_step, plain_steps, plain_start, sync}
 
 -- a key put among rising keys
 module _ {K : Type 0} {R : K → K → Ordering} (order : IsTotalOrder R) where
@@ -85,7 +86,7 @@ does_rise k state w s own h = record {
 
 fire_rises : (p : Program) (d : Due) (s : Plain) → AreRising s → AreRising (fire p d s)
 fire_rises p d s h =
-    does_rise d.key (without_least (s.map d.key)) (firing_run p s.wm (s.map d.key) d.time) s (rising_later (s.map d.key).times (h.times d.key)) h
+    does_rise d.key (without_least (s.map d.key)) (job_run p (firing_job s.wm d.time) (s.map d.key).cells) s (rising_later (s.map d.key).times (h.times d.key)) h
 
 fire_next_rises : (p : Program) (go : (Key → ℕ) → Plain → Plain) → ((more : Key → ℕ) (s : Plain) → AreRising s → AreRising (go more s))
     → (o : Option Due) (more : Key → ℕ) (s : Plain) → AreRising s → AreRising (fire_next p go o more s)
@@ -102,7 +103,7 @@ plain_if false s t a b = b
 
 pub step_rises : (m : ℕ) (p : Program) (e : Event) (s : Plain) → AreRising s → AreRising (plain_step m p e s)
 step_rises m p (Row k time values) s h =
-    does_rise k (s.map k) (row_run p s.wm (s.map k) time values) (knows k s) (h.times k) (record { keys = rising_put nat_list_cmp_total k s.keys h.keys; times = h.times })
+    does_rise k (s.map k) (job_run p (row_job s.wm time values) (s.map k).cells) (knows k s) (h.times k) (record { keys = rising_put nat_list_cmp_total k s.keys h.keys; times = h.times })
 step_rises m p (Mark w) s h =
     let fired : AreRising (all_fired p (at_watermark w s)) =
     fire_all_rises p (most_firings * length s.keys) (λ k. most_firings) (at_watermark w s) (record { keys = h.keys; times = h.times }) in

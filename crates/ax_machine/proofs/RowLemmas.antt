@@ -10,11 +10,12 @@ use Rattle.std.proofs.lemmas.Map.Lookups.{exact_bytes}
 use Rattle.ax_keys.specs.Keys.{key_cmp}
 use Rattle.ax_text.specs.KeyStates.{fresh}
 use Rattle.ax_text.specs.Programs.{Program, kinds_of}
-use Rattle.ax_machine.specs.Entries.{Key, Watermark}
+use Rattle.ax_text.specs.Jobs.{lines_in}
+use Rattle.ax_machine.specs.Entries.{Key, Watermark, lines_of}
 use Rattle.ax_machine.specs.Events.{Event, Row, Mark, Barrier, has_row}
 use Rattle.ax_machine.specs.Firings.{most_firings, due_of}
-use Rattle.ax_machine.specs.Sync.{Plain, all_fired, at_watermark, writes, plain_step, plain_steps, plain_start, sync}
-use Rattle.ax_machine.specs.KeySync.{Said, key_fires, KeyPlain, key_row, key_step, key_steps, key_in}
+use Rattle.ax_machine.specs.Sync.{Plain, all_fired, at_watermark, writes, plain_step, plain_steps, plain_start, first_wm, sync}
+use Rattle.ax_machine.specs.KeySync.{Said, key_fires, KeyPlain, key_row, key_step, key_steps, untold, key_sync}
 use Rattle.ax_machine.proofs.KeyLemmas.{not_due, fire_all_beside, is_projected}
 
 or_swap : (a b c : Bool) → (a || (b || c)) ≡ (b || (a || c))
@@ -86,6 +87,11 @@ stays p k (Mark w ∷ es) s h e =
     stays p k es (key_step p k (Mark w) s) h (ap (λ (t : Said). t.state.times) same ∙ e) ∙ same
 stays p k (Barrier id ∷ es) s h e = stays p k es s h e
 
-pub sync_others : (m : ℕ) (p : Program) (k : Key) (events : List Event) → has_row k events ≡ false
-    → (key_in k (sync m p events)).said ≡ record { state = fresh (kinds_of p.states); lines = [] }
-sync_others m p k events h = ap (λ (s : KeyPlain). s.said) (is_projected m p k events) ∙ stays p k events (key_in k (plain_start p)) h refl
+others_stay : (p : Program) (k : Key) (events : List Event) → has_row k events ≡ false → (key_sync p k events).said ≡ untold p
+others_stay p k events h = stays p k events (record { wm = first_wm; said = untold p }) h refl
+
+pub other_states : (m : ℕ) (p : Program) (k : Key) (events : List Event) → has_row k events ≡ false → (sync m p events).map k ≡ fresh (kinds_of p.states)
+other_states m p k events h = (is_projected m p k events).state ∙ ap (λ (t : Said). t.state) (others_stay p k events h)
+
+pub other_lines : (m : ℕ) (p : Program) (k : Key) (events : List Event) → has_row k events ≡ false → lines_of k (sync m p events).entries ≡ []
+other_lines m p k events h = (is_projected m p k events).lines ∙ ap (λ (t : Said). lines_in t.groups) (others_stay p k events h)

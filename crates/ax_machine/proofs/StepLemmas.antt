@@ -3,11 +3,12 @@ use Rattle.std.proofs.Common.{◌≡◌, ℕ, zero, suc, ◌*◌, ℤ, int_lt, L
 use Rattle.ax_text.specs.Run.{World}
 use Rattle.ax_text.specs.KeyStates.{KeyState}
 use Rattle.ax_text.specs.Programs.{Program}
+use Rattle.ax_text.specs.Jobs.{row_job, firing_job, job_run}
 use Rattle.ax_machine.specs.Entries.{Key, Marker, Watermark, Entry, says, entry_text, text_of}
 use Rattle.ax_machine.specs.Entries as entry
 use Rattle.ax_machine.specs.Events.{Event, Row, Mark, Barrier}
 use Rattle.ax_machine.specs.Firings.{Due, most_firings, next_due, one_less}
-use Rattle.ax_machine.specs.Sync.{Plain, row_run, firing_run, without_least, does, knows, fire, fire_next, fire_all, all_fired, at_watermark, writes, block_of, plain_step, plain_steps, plain_start, sync, silent, behind}
+use Rattle.ax_machine.specs.Sync.{Plain, without_least, does, knows, fire, fire_next, fire_all, all_fired, at_watermark, writes, block_of, plain_step, plain_steps, plain_start, sync, silent, behind}
 use Rattle.ax_machine.specs.Lawful.{LawfulSoFar, LawfulSoFarFor}
 use Rattle.ax_machine.proofs.FrontLemmas.{lawful_so_far_longer}
 
@@ -21,7 +22,7 @@ writes_behind : (es : List Entry) (m : Marker) (s : Plain) → writes m (behind 
 writes_behind es m s = with_entries refl refl refl (append_assoc es s.entries (entry.Mark m ∷ []))
 
 pub fire_behind : (es : List Entry) (p : Program) (d : Due) (s : Plain) → fire p d (behind es s) ≡ behind es (fire p d s)
-fire_behind es p d s = does_behind es d.key (without_least (s.map d.key)) (firing_run p s.wm (s.map d.key) d.time) s
+fire_behind es p d s = does_behind es d.key (without_least (s.map d.key)) (job_run p (firing_job s.wm d.time) (s.map d.key).cells) s
 
 fire_next_behind : (es : List Entry) (p : Program) (go : (Key → ℕ) → Plain → Plain) → ((more : Key → ℕ) (s : Plain) → go more (behind es s) ≡ behind es (go more s))
     → (o : Option Due) (more : Key → ℕ) (s : Plain) → fire_next p go o more (behind es s) ≡ behind es (fire_next p go o more s)
@@ -54,7 +55,7 @@ watermark_behind es p w s =
 
 -- a step behind more entries
 pub step_further : (m : ℕ) (p : Program) (e : Event) (es : List Entry) (s : Plain) → plain_step m p e (behind es s) ≡ behind es (plain_step m p e s)
-step_further m p (Row k time values) es s = does_behind es k (s.map k) (row_run p s.wm (s.map k) time values) (knows k s)
+step_further m p (Row k time values) es s = does_behind es k (s.map k) (job_run p (row_job s.wm time values) (s.map k).cells) (knows k s)
 step_further m p (Mark w) es s = watermark_if es (int_lt s.wm w)
     (writes (Watermark w) (all_fired p (at_watermark w (behind es s)))) (writes (Watermark w) (all_fired p (at_watermark w s))) s (watermark_behind es p w s)
 step_further m p (Barrier id) es s = writes_behind es (block_of m p id s) s

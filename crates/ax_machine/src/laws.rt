@@ -7,10 +7,10 @@ ghost use Rattle.std.specs.Ordering.{int_cmp};
 ghost use Rattle.ax_keys.specs.Keys.{key_cmp};
 ghost use Rattle.ax_text.specs.KeyStates.{fresh};
 ghost use Rattle.ax_text.specs.Programs.{Program, kinds_of};
-ghost use Rattle.ax_machine.specs.Entries.{Key, Entry};
+ghost use Rattle.ax_machine.specs.Entries.{Key, Entry, lines_of};
 ghost use Rattle.ax_machine.specs.Events.{Event, has_row};
 ghost use Rattle.ax_machine.specs.Sync.{Plain, plain_steps, sync, silent, behind};
-ghost use Rattle.ax_machine.specs.KeySync.{key_in, IsProjected};
+ghost use Rattle.ax_machine.specs.KeySync.{IsProjected};
 ghost use Rattle.ax_machine.specs.Lawful.{Lawful, LawfulSoFar, LawfulSoFarFor};
 
 /// What the plain thread writes is lawful: each list is lawful for itself.
@@ -49,6 +49,6 @@ pub fn keys_and_times_rise()
 /// The keys are those of the rows; of any other key the plain thread has and writes nothing. So a block misses no key.
 pub fn keys_are_those_of_rows()
     ensures keys { (m : ℕ) (p : Program) (events : List Event) (k : Key) → list_any (bytes_eq k) (sync m p events).keys ≡ has_row k events }
-    ensures others { (m : ℕ) (p : Program) (events : List Event) (k : Key) → has_row k events ≡ false
-        → (key_in k (sync m p events)).said ≡ record { state = fresh (kinds_of p.states); lines = [] } }
+    ensures states { (m : ℕ) (p : Program) (events : List Event) (k : Key) → has_row k events ≡ false → (sync m p events).map k ≡ fresh (kinds_of p.states) }
+    ensures lines { (m : ℕ) (p : Program) (events : List Event) (k : Key) → has_row k events ≡ false → lines_of k (sync m p events).entries ≡ [] }
 {}
