@@ -1,7 +1,7 @@
 //! Where bytes come from and where they go.
-ghost use Rattle.std.specs.Prelude.{◌≡◌, ◌≤◌, ◌<◌, ℕ, List, Option, length, take, drop, IfOk, OnOk, OnErr, MatchResult};
+ghost use Rattle.std.specs.Prelude.{◌≡◌, ◌≤◌, ◌<◌, ℕ, List, Option, length, take, drop, IfOk, OnOk, OnErr};
 ghost use Rattle.std.specs.Io.KnownBytes.{Consumes, Appends, Keeps, IsAtEnd};
-ghost use Rattle.ax_base.specs.Outside.{Rose, HasCause, AppendsPart};
+ghost use Rattle.ax_base.specs.Outside.{ReadCount, Counts, WriteCounts, AppendsPart};
 
 use thiserror::Error;
 
@@ -32,13 +32,14 @@ pub trait Source {
     /// The bytes still to come, where it tells them.
     ghost left: { Self → Option (List ℕ) };
 
-    /// How often a read failed. The count never falls.
+    /// How often a read failed.
     ghost faults: { Self → ℕ };
 
     /// Reads at least one byte into the front of `buf`, and says how many; the rest of `buf` is
     /// unchanged. `Ok(0)` is the end. Condition: `buf` is not empty.
     ///
-    /// `Failed` comes only where `faults` rose; the bytes still to come are then as before.
+    /// A failure raises `faults` by one, or finds it at the end of its type, and nothing else changes it; after a failure the
+    /// bytes still to come are as before.
     fn read(&mut self, buf: &mut [u8]) -> Result<usize, Failed>
         requires { 0 < length buf.old }
         ensures bound { IfOk result (λ n. n ≤ length buf.old) }
@@ -46,8 +47,7 @@ pub trait Source {
         ensures rest { IfOk result (λ n. drop n buf.new ≡ drop n buf.old) }
         ensures end { IfOk result (λ n. n ≡ 0 → IsAtEnd (left self.old)) }
         ensures kept { OnErr result (Keeps (left self.old) (left self.new)) }
-        ensures count { faults self.old ≤ faults self.new }
-        ensures cause { OnErr result (Rose (faults self.old) (faults self.new)) };
+        ensures count { ReadCount (faults self.old) (faults self.new) result };
 }
 
 /// Where bytes go.
@@ -55,26 +55,25 @@ pub trait Sink {
     /// The bytes taken so far, where it tells them.
     ghost holds: { Self → Option (List ℕ) };
 
-    /// How often a write failed. The count never falls.
-    ghost faults: { Self → ℕ };
+    /// How often a write failed, and how often memory was short.
+    ghost counts: { Self → Counts };
 
-    /// How often memory was short. The count never falls.
-    ghost short: { Self → ℕ };
+    /// What was held at first by the sink to which the bytes go in the end, where one sink hands on to another. It never changes.
+    ghost base: { Self → Option (List ℕ) };
 
     /// Takes at least one byte from the front of `piece`, and says how many. Condition: `piece` is
     /// not empty.
     ///
-    /// `Failed` comes only where `faults` rose, and `NoMemory` only where `short` rose. After
-    /// either nothing was taken.
+    /// `Failed` raises the count of failures by one, `NoMemory` that of want of memory, or finds it at the end of its type; nothing
+    /// else changes a count. After either nothing was taken.
     fn write(&mut self, piece: &[u8]) -> Result<usize, SinkFault>
         requires { 0 < length piece.now }
         ensures some { IfOk result (λ n. 0 < n) }
         ensures bound { IfOk result (λ n. n ≤ length piece.now) }
         ensures taken { IfOk result (λ n. Appends (holds self.old) (holds self.new) (take n piece.now)) }
         ensures kept { OnErr result (Keeps (holds self.old) (holds self.new)) }
-        ensures count { faults self.old ≤ faults self.new }
-        ensures short_count { short self.old ≤ short self.new }
-        ensures cause { HasCause (faults self.old) (faults self.new) (short self.old) (short self.new) result };
+        ensures counts { WriteCounts (counts self.old) (counts self.new) result }
+        ensures base { base self.new ≡ base self.old };
 }
 
 /// Writes all of the bytes, in as many writes as it needs. It takes no memory of its own.
@@ -83,9 +82,8 @@ pub trait Sink {
 pub fn write_all<K: Sink>(out: &mut K, bytes: &[u8]) -> Result<(), SinkFault>
     ensures all { OnOk result (Appends (K.holds out.old) (K.holds out.new) bytes.now) }
     ensures part { OnErr result (AppendsPart (K.holds out.old) (K.holds out.new) bytes.now) }
-    ensures count { K.faults out.old ≤ K.faults out.new }
-    ensures short_count { K.short out.old ≤ K.short out.new }
-    ensures cause { HasCause (K.faults out.old) (K.faults out.new) (K.short out.old) (K.short out.new) result }
+    ensures counts { WriteCounts (K.counts out.old) (K.counts out.new) result }
+    ensures base { K.base out.new ≡ K.base out.old }
 {
     let mut done = 0;
     while done < bytes.len() {
