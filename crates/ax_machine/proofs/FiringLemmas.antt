@@ -1,5 +1,5 @@
 -- The timer that fires next, and what is left to fire behind it.
-use Rattle.std.proofs.Common.{◌≡◌, ℕ, zero, suc, ◌*◌, ◌-◌, ◌≤◌, ◌<◌, ℤ, int_le, List, [], ◌∷◌, length, Bool, true, false, ◌||◌, Option, Some, None, Ordering, Less, Equal, Greater, int_cmp, is_lt, is_gt, refl, sym, ap, ap₂, ◌∙◌, subst, arith, cond, ◌⊎◌, inl, inr, ⊎_elim}
+use Rattle.std.proofs.Common.{◌≡◌, ℕ, zero, suc, ◌+◌, ◌*◌, ◌-◌, ◌≤◌, ◌<◌, ℤ, int_le, List, [], ◌∷◌, length, Bool, true, false, ◌||◌, Option, Some, None, Ordering, Less, Equal, Greater, int_cmp, is_lt, is_gt, refl, sym, ap, ap₂, ◌∙◌, subst, arith, cond, ◌⊎◌, inl, inr, ⊎_elim}
 use Rattle.std.specs.Str.{bytes_eq}
 use Rattle.std.specs.List.{list_any}
 use Rattle.std.specs.Ordering.{ordering_then, ordering_reverse}
@@ -12,8 +12,13 @@ use Rattle.ax_keys.specs.Keys.{key_cmp}
 use Rattle.ax_text.specs.KeyStates.{KeyState}
 use Rattle.ax_text.specs.Programs.{Program}
 use Rattle.ax_machine.specs.Entries.{Key}
-use Rattle.ax_machine.specs.Firings.{Due, due_cmp, due_of, candidate, earlier, next_due, one_less, total}
+use Rattle.ax_machine.specs.Firings.{Due, due_cmp, due_of, candidate, earlier, next_due, one_less}
 use Rattle.ax_machine.specs.Sync.{Plain, fire, fire_next, fire_all}
+
+-- how many firings are left to these keys in all
+abbrev pub total : List Key → (Key → ℕ) → ℕ
+total [] more = 0
+total (k ∷ ks) more = more k + total ks more
 
 -- keys as their bytes tell them apart
 pub same_key : (k : Key) → bytes_eq k k ≡ true

@@ -14,11 +14,11 @@ use Rattle.ax_text.specs.Jobs.{Job, Group, row_job, firing_job, job_run, group_o
 use Rattle.ax_machine.specs.Entries.{Key, Marker, Watermark, Entry, lines_of, says}
 use Rattle.ax_machine.specs.Entries as entry
 use Rattle.ax_machine.specs.Events.{Event, Row, Mark, Barrier}
-use Rattle.ax_machine.specs.Firings.{Due, most_firings, due_of, candidate, next_due, one_less, total}
+use Rattle.ax_machine.specs.Firings.{Due, most_firings, due_of, candidate, next_due, one_less}
 use Rattle.ax_machine.specs.Sync.{Plain, put_at, does, knows, row_step, without_least, fire, fire_next, fire_all, all_fired, at_watermark, writes, watermark_step, block_of, plain_step, plain_steps, plain_start, first_wm, sync}
 use Rattle.ax_machine.specs.KeySync.{Said, ran, fire_first, key_fires, KeyPlain, key_row, key_step, key_steps, untold, key_sync, IsProjected}
 use Rattle.ax_machine.proofs.FrontLemmas.{lines_of-append}
-use Rattle.ax_machine.proofs.FiringLemmas.{same_key, key_is, among, has_head, has_tail, IsOwn, candidate_own, IsNext, next_found, next_none, in_total, total_most, total_lt}
+use Rattle.ax_machine.proofs.FiringLemmas.{total, same_key, key_is, among, has_head, has_tail, IsOwn, candidate_own, IsNext, next_found, next_none, in_total, total_most, total_lt}
 
 by_cases : {A : Type 0} (b : Bool) → (b ≡ true → A) → (b ≡ false → A) → A
 by_cases true p q = p refl

@@ -1,8 +1,10 @@
 pub mod BoundLemmas
+pub mod ExampleLemmas
 pub mod FiringLemmas
 pub mod FrontLemmas
 pub mod KeyLemmas
 pub mod LawfulLemmas
+pub mod MeaningLemmas
 pub mod RisingLemmas
 pub mod RowLemmas
 pub mod StepLemmas

@@ -92,3 +92,29 @@ watermark time = entry.Mark (Watermark time)
 -- a block of these lines
 abbrev pub block : List (List ℕ) → Entry
 block lines = entry.Mark (Block (flat_map (λ line. line ++ 10 ∷ []) lines))
+
+-- a timer that fires, a row behind its watermark, a barrier, and a row behind that
+abbrev pub mixed : List Event
+mixed = row_of (codes "a") (pos 1) (pos 3) ∷ Mark (pos 3) ∷ row_of (codes "b") (pos 4) (pos 9) ∷ Barrier (pos 1) ∷ row_of (codes "a") (pos 5) (pos 9) ∷ []
+
+-- what they write, entry by entry
+abbrev pub first_a : Entry
+first_a = Out (codes "a") (pos 1 ∷ pos 1 ∷ [])
+
+abbrev pub firing_a : Entry
+firing_a = Out (codes "a") (pos 2 ∷ pos 3 ∷ pos 3 ∷ [])
+
+abbrev pub mark_3 : Entry
+mark_3 = watermark (pos 3)
+
+abbrev pub row_b : Entry
+row_b = Out (codes "b") (pos 1 ∷ pos 4 ∷ [])
+
+abbrev pub block_1 : Entry
+block_1 = block (codes "s 1 3" ∷ codes "t b 9" ∷ codes "e 1 1" ∷ [])
+
+abbrev pub last_a : Entry
+last_a = Out (codes "a") (pos 1 ∷ pos 5 ∷ [])
+
+abbrev pub mixed_entries : List Entry
+mixed_entries = first_a ∷ firing_a ∷ mark_3 ∷ row_b ∷ block_1 ∷ last_a ∷ []

@@ -1,5 +1,5 @@
 -- Which timer fires next at a watermark.
-use Rattle.std.specs.Prelude.{ℕ, zero, suc, ◌+◌, ◌-◌, ℤ, int_le, List, [], ◌∷◌, if◌then◌else◌, Option, Some, None}
+use Rattle.std.specs.Prelude.{ℕ, zero, suc, ◌-◌, ℤ, int_le, List, [], ◌∷◌, if◌then◌else◌, Option, Some, None}
 use Rattle.std.specs.Str.{bytes_eq}
 use Rattle.std.specs.Ordering.{int_cmp, ordering_then, is_lt}
 use Rattle.std.specs.declared.cmp.Ordering.{Ordering}
@@ -43,8 +43,3 @@ next_due w (k ∷ ks) more map = earlier (candidate w (more k) k (map k)) (next_
 -- one time less for a key
 abbrev pub one_less : (Key → ℕ) → Key → Key → ℕ
 one_less more k q = if bytes_eq k q then more q - 1 else more q
-
--- how many firings are left to these keys in all
-abbrev pub total : List Key → (Key → ℕ) → ℕ
-total [] more = 0
-total (k ∷ ks) more = more k + total ks more

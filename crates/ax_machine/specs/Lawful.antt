@@ -73,3 +73,13 @@ LawfulFor m serial p events written = Lawful serial written (sync m p events).en
 -- what it may have written so far
 abbrev pub LawfulSoFarFor : ℕ → Bool → Program → List Event → List Entry → Type 0
 LawfulSoFarFor m serial p events written = LawfulSoFar serial written (sync m p events).entries
+
+-- the place in the plain thread's list of a marker before which `front` was written: no marker is left out before it,
+-- each key has at least the lines that it has there in the plain thread, and where the marker is strict just those
+pub record HasPlace (serial : Bool) (front : List Entry) (marker : Marker) (plain : List Entry) : Type 0 where
+  pub before : List Entry
+  pub behind : List Entry
+  pub stands : plain ≡ before ++ Mark marker ∷ behind
+  pub markers : markers (cuts front) ≡ markers (cuts before)
+  pub has_all : (k : Key) → IsPrefix (lines_of k before) (lines_of k front)
+  pub has_no_more : IsStrict serial marker → (k : Key) → lines_of k front ≡ lines_of k before

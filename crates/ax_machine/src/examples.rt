@@ -1,9 +1,10 @@
-//! Worked examples as laws: what the plain thread writes for small programs and events.
-ghost use Rattle.std.specs.Prelude.{◌≡◌, [], ◌∷◌, codes, pos};
+//! Worked examples as laws: what the plain thread writes for small programs and events, and which lists are refused in its place.
+ghost use Rattle.std.specs.Prelude.{◌≡◌, [], ◌∷◌, Bool, true, false, codes, pos};
 ghost use Rattle.ax_machine.specs.Entries.{Out};
 ghost use Rattle.ax_machine.specs.Events.{Mark, Barrier};
 ghost use Rattle.ax_machine.specs.Sync.{sync};
-ghost use Rattle.ax_machine.specs.Examples.{counting, clicks, line, alarm, late_alarm, same_alarm, three_alarms, ticking, ticks, many_ticks, lasting, saved, watermark, block};
+ghost use Rattle.ax_machine.specs.Lawful.{LawfulFor, LawfulSoFarFor};
+ghost use Rattle.ax_machine.specs.Examples.{counting, clicks, line, alarm, late_alarm, same_alarm, three_alarms, ticking, ticks, many_ticks, lasting, saved, watermark, block, mixed, mixed_entries, first_a, firing_a, mark_3, row_b, block_1, last_a};
 
 /// The counting program, over rows of two keys by turns.
 pub fn counts_by_key()
@@ -54,4 +55,48 @@ pub fn empty_block()
 pub fn block_by_group()
     ensures { (sync 128 lasting saved).entries
         ≡ watermark (pos 2) ∷ block (codes "s 1 2" ∷ codes "c b c 1" ∷ codes "c a c 12" ∷ codes "t a 3" ∷ codes "e 1 3" ∷ []) ∷ [] }
+{}
+
+/// A timer that fires, a row behind its watermark, a barrier, and a row behind that: the list that those below are held against.
+pub fn mixed_events()
+    ensures { (sync 128 alarm mixed).entries ≡ mixed_entries }
+{}
+
+/// A watermark before the line of a timer that it fires is refused.
+pub fn watermark_before_its_firing_is_refused()
+    ensures { (serial : Bool) → LawfulFor 128 serial alarm mixed (first_a ∷ mark_3 ∷ firing_a ∷ row_b ∷ block_1 ∷ last_a ∷ []) → ⊥ }
+{}
+
+/// A later row's line before a watermark is refused in serial mode and accepted in parallel mode.
+pub fn later_row_before_a_watermark()
+    ensures serial { LawfulFor 128 true alarm mixed (first_a ∷ firing_a ∷ row_b ∷ mark_3 ∷ block_1 ∷ last_a ∷ []) → ⊥ }
+    ensures parallel { LawfulFor 128 false alarm mixed (first_a ∷ firing_a ∷ row_b ∷ mark_3 ∷ block_1 ∷ last_a ∷ []) }
+{}
+
+/// In both modes a block before an earlier row's line is refused, and so is a block behind a later row's line.
+pub fn block_elsewhere_is_refused()
+    ensures earlier { (serial : Bool) → LawfulFor 128 serial alarm mixed (first_a ∷ firing_a ∷ mark_3 ∷ block_1 ∷ row_b ∷ last_a ∷ []) → ⊥ }
+    ensures later { (serial : Bool) → LawfulFor 128 serial alarm mixed (first_a ∷ firing_a ∷ mark_3 ∷ row_b ∷ last_a ∷ block_1 ∷ []) → ⊥ }
+{}
+
+/// A line or a marker that is missing, or that stands there twice, is refused.
+pub fn other_lines_are_refused()
+    ensures line { (serial : Bool) → LawfulFor 128 serial alarm mixed (first_a ∷ firing_a ∷ mark_3 ∷ row_b ∷ block_1 ∷ []) → ⊥ }
+    ensures marker { (serial : Bool) → LawfulFor 128 serial alarm mixed (first_a ∷ firing_a ∷ row_b ∷ block_1 ∷ last_a ∷ []) → ⊥ }
+    ensures twice { (serial : Bool) → LawfulSoFarFor 128 serial alarm mixed (first_a ∷ firing_a ∷ mark_3 ∷ mark_3 ∷ []) → ⊥ }
+{}
+
+/// Of a list that was written so far, a watermark where a line before it is missing is refused.
+/// A later row's line where the watermark isn't written is refused in serial mode only, and where a block isn't written in both modes.
+pub fn lines_so_far()
+    ensures missing { (serial : Bool) → LawfulSoFarFor 128 serial alarm mixed (first_a ∷ mark_3 ∷ []) → ⊥ }
+    ensures serial { LawfulSoFarFor 128 true alarm mixed (first_a ∷ firing_a ∷ row_b ∷ []) → ⊥ }
+    ensures parallel { LawfulSoFarFor 128 false alarm mixed (first_a ∷ firing_a ∷ row_b ∷ []) }
+    ensures block { (serial : Bool) → LawfulSoFarFor 128 serial alarm mixed (first_a ∷ firing_a ∷ last_a ∷ []) → ⊥ }
+{}
+
+/// Lines of two keys may change places, lines of one key may not.
+pub fn lines_of_two_keys()
+    ensures two { (serial : Bool) → LawfulFor 128 serial counting clicks (line (codes "b") (pos 1) ∷ line (codes "a") (pos 5) ∷ line (codes "a") (pos 12) ∷ []) }
+    ensures one { (serial : Bool) → LawfulFor 128 serial counting clicks (line (codes "a") (pos 12) ∷ line (codes "a") (pos 5) ∷ line (codes "b") (pos 1) ∷ []) → ⊥ }
 {}

@@ -1,4 +1,4 @@
-//! Laws over the definitions.
+//! Laws of the plain thread.
 ghost use Rattle.std.specs.Prelude.{◌≡◌, ℕ, List, Bool, [], ◌++◌, false};
 ghost use Rattle.std.specs.Str.{bytes_eq};
 ghost use Rattle.std.specs.List.{list_any};
@@ -11,27 +11,10 @@ ghost use Rattle.ax_machine.specs.Entries.{Key, Entry, lines_of};
 ghost use Rattle.ax_machine.specs.Events.{Event, has_row};
 ghost use Rattle.ax_machine.specs.Sync.{Plain, plain_steps, sync, silent, behind};
 ghost use Rattle.ax_machine.specs.KeySync.{IsProjected};
-ghost use Rattle.ax_machine.specs.Lawful.{Lawful, LawfulSoFar, LawfulSoFarFor};
-
-/// What the plain thread writes is lawful: each list is lawful for itself.
-pub fn lawful_itself()
-    ensures { (serial : Bool) (entries : List Entry) → Lawful serial entries entries }
-{}
-
-/// A list of which only the front was written is lawful so far.
-pub fn front_is_lawful_so_far()
-    ensures { (serial : Bool) (front rest : List Entry) → LawfulSoFar serial front (front ++ rest) }
-{}
 
 /// Steps of the plain thread do the same whatever was written before, and write behind it.
 pub fn steps_write_behind()
     ensures { (m : ℕ) (p : Program) (events : List Event) (s : Plain) → plain_steps m p events s ≡ behind s.entries (plain_steps m p events (silent s)) }
-{}
-
-/// What may have been written so far for events may have been written so far for these and further ones.
-pub fn further_events_change_nothing()
-    ensures { (m : ℕ) (serial : Bool) (p : Program) (first further : List Event) (written : List Entry)
-        → LawfulSoFarFor m serial p first written → LawfulSoFarFor m serial p (first ++ further) written }
 {}
 
 /// What the plain thread of all keys has and writes of a key is what the thread of that key alone has and writes:

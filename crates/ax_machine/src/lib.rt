@@ -4,6 +4,7 @@
 #![tactic(auto)]
 
 pub mod examples;
+pub mod lawful;
 pub mod laws;
 pub mod watermark;
 
