@@ -68,7 +68,7 @@ before_one_way Greater e = absurd (true≢false (sym e))
 not_both_before : (a b : Due) → is_lt (due_cmp a b) ≡ true → is_lt (due_cmp b a) ≡ false
 not_both_before a b e = ap is_lt (due_total.antisymm b a) ∙ before_one_way (due_cmp a b) e
 
-then_equal : (p q : Ordering) → ordering_then p q ≡ Equal → (p ≡ Equal) × (q ≡ Equal)
+pub then_equal : (p q : Ordering) → ordering_then p q ≡ Equal → (p ≡ Equal) × (q ≡ Equal)
 then_equal Less q e = absurd (cc)
 then_equal Equal q e = (refl, e)
 then_equal Greater q e = absurd (cc)

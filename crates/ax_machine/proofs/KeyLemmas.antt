@@ -20,7 +20,7 @@ use Rattle.ax_machine.specs.KeySync.{Said, ran, fire_first, key_fires, KeyPlain,
 use Rattle.ax_machine.proofs.FrontLemmas.{lines_of-append}
 use Rattle.ax_machine.proofs.FiringLemmas.{total, same_key, key_is, among, has_head, has_tail, IsOwn, candidate_own, IsNext, next_found, next_none, in_total, total_most, total_lt}
 
-by_cases : {A : Type 0} (b : Bool) → (b ≡ true → A) → (b ≡ false → A) → A
+pub by_cases : {A : Type 0} (b : Bool) → (b ≡ true → A) → (b ≡ false → A) → A
 by_cases true p q = p refl
 by_cases false p q = q refl
 

@@ -1,3 +1,4 @@
+pub mod BlockLemmas
 pub mod BoundLemmas
 pub mod ExampleLemmas
 pub mod FiringLemmas
@@ -7,4 +8,5 @@ pub mod LawfulLemmas
 pub mod MeaningLemmas
 pub mod RisingLemmas
 pub mod RowLemmas
+pub mod SkipLemmas
 pub mod StepLemmas

@@ -41,7 +41,7 @@ module _ {K : Type 0} {R : K → K → Ordering} (order : IsTotalOrder R) where
       of Equal more = a
       of Greater more = (a.0, more)
 
-  rising_put : (t : K) (xs : List K) → IsStrictlySortedBy R xs → IsStrictlySortedBy R (insert_key R xs t)
+  pub rising_put : (t : K) (xs : List K) → IsStrictlySortedBy R xs → IsStrictlySortedBy R (insert_key R xs t)
   unfolding Above IsStrictlySortedBy
   rising_put t [] s = (tt, tt)
   rising_put t (x ∷ xs) s = of (R t x) refl (rising_put t xs s.1)

@@ -1,5 +1,6 @@
 -- Snapshot blocks: what each key has, by key group and then key.
-use Rattle.std.specs.Prelude.{ℕ, ◌+◌, ℤ, List, [], ◌∷◌, ◌++◌, length, Option, Some, None}
+use Rattle.std.specs.Prelude.{ℕ, ◌+◌, ℤ, List, [], ◌∷◌, ◌++◌, length, if◌then◌else◌, Option, Some, None}
+use Rattle.std.specs.Str.{bytes_eq}
 use Rattle.std.specs.Ordering.{nat_cmp, ordering_then}
 use Rattle.std.specs.declared.cmp.Ordering.{Ordering}
 use Rattle.std.specs.BTreeMap.{insert_entry}
@@ -52,6 +53,14 @@ part_lines states p = state_lines p.key 0 states p.state.cells ++ timer_lines p.
 abbrev pub inner_lines : List State → List (Key × Part) → List OutLine
 inner_lines states [] = []
 inner_lines states (e ∷ es) = part_lines states e.1 ++ inner_lines states es
+
+-- the lines of a key among parts: those of the last part of that key
+abbrev pub lines_from : List State → Key → List OutLine → List Part → List OutLine
+lines_from states k found [] = found
+lines_from states k found (p ∷ ps) = lines_from states k (if bytes_eq p.key k then part_lines states p else found) ps
+
+abbrev pub lines_among : List State → Key → List Part → List OutLine
+lines_among states k parts = lines_from states k [] parts
 
 -- a head, the lines between, and an end with their number
 abbrev pub framed : ℤ → ℤ → List OutLine → List OutLine
