@@ -18,7 +18,7 @@ use Rattle.ax_keys.specs.Keys.{key_cmp}
 use Rattle.ax_keys.specs.Groups.{group}
 use Rattle.ax_text.specs.declared.vocabulary.Kind.{Kind}
 use Rattle.ax_text.specs.declared.vocabulary.Kind.TheVariants as kind
-use Rattle.ax_text.specs.Cells.{empty_cell}
+use Rattle.ax_text.specs.Cells.{Cells, empty_cell, kind_of}
 use Rattle.ax_text.specs.KeyStates.{fresh}
 use Rattle.ax_text.specs.Programs.{State, kinds_of, untouched}
 use Rattle.ax_machine.specs.Entries.{Key}
@@ -212,16 +212,23 @@ module _ (m : ℕ) (states : List State) where
 pub same_block : (m : ℕ) (states : List State) (id wm : ℤ) (ps qs : List Part) → ((k : Key) → lines_among states k ps ≡ lines_among states k qs) → block_text m states id wm ps ≡ block_text m states id wm qs
 same_block m states id wm ps qs h = ap (λ (ls : List OutLine). lines_text (framed id wm ls)) (same_inner m states ps qs h)
 
--- a key that was never touched has no line
+-- a key with neither state nor timer has no line
 empty_lines : (k : Key) (name : List ℕ) (of : Kind) → cell_lines k name (empty_cell of) ≡ []
 empty_lines k name kind.Value = refl
 
-untouched_lines : (k : Key) (kinds : List Kind) (i : ℕ) (ss : List State) → state_lines k i ss (untouched kinds) ≡ []
-untouched_lines k kinds i [] = refl
-untouched_lines k kinds i (s ∷ ss) = ap (λ (xs : List OutLine). xs ++ state_lines k (i + 1) ss (untouched kinds)) (empty_lines k s.name (slice_index_or kinds i kind.Value)) ∙ untouched_lines k kinds (i + 1) ss
+empty_states : (k : Key) (cells : Cells) → ((i : ℕ) → cells i ≡ empty_cell (kind_of (cells i))) → (i : ℕ) (ss : List State) → state_lines k i ss cells ≡ []
+empty_states k cells empty i [] = refl
+empty_states k cells empty i (s ∷ ss) =
+    ap₂ (λ (xs ys : List OutLine). xs ++ ys) (ap (cell_lines k s.name) (empty i) ∙ empty_lines k s.name (kind_of (cells i))) (empty_states k cells empty (i + 1) ss)
+
+pub no_states : (states : List State) (k : Key) (cells : Cells) → ((i : ℕ) → cells i ≡ empty_cell (kind_of (cells i))) → part_lines states (record { key = k; state = record { cells = cells; times = [] } }) ≡ []
+no_states states k cells empty = ap (λ (xs : List OutLine). xs ++ []) (empty_states k cells empty 0 states)
+
+of_kind : (of : Kind) → empty_cell of ≡ empty_cell (kind_of (empty_cell of))
+of_kind kind.Value = refl
 
 pub fresh_lines : (states : List State) (k : Key) → part_lines states (record { key = k; state = fresh (kinds_of states) }) ≡ []
-fresh_lines states k = ap (λ (xs : List OutLine). xs ++ []) (untouched_lines k (kinds_of states) 0 states)
+fresh_lines states k = no_states states k (untouched (kinds_of states)) (λ i. of_kind (slice_index_or (kinds_of states) i kind.Value))
 
 -- keys without lines may be left out
 module _ (states : List State) (map : Map) (kept : Key → Bool) (none : (k : Key) → kept k ≡ false → part_lines states (record { key = k; state = map k }) ≡ []) where

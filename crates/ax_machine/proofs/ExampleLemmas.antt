@@ -1,10 +1,10 @@
 -- Lists that are refused, and lists that are accepted, in the place of what the plain thread writes.
-use Rattle.std.proofs.Common.{◌≡◌, ℕ, ◌+◌, ◌≤◌, ℤ, pos, List, [], ◌∷◌, Bool, true, false, cond, codes, refl, sym, ◌∙◌, arith, subst}
+use Rattle.std.proofs.Common.{◌≡◌, ◌+◌, ◌≤◌, ℤ, pos, List, [], ◌∷◌, Bool, true, false, cond, codes, refl, sym, arith, subst}
 use Rattle.std.specs.Str.{bytes_eq}
 use Rattle.std.specs.Fmt.{digits}
 use Rattle.std.proofs.lemmas.Bool.{true≢false}
 use Rattle.ax_text.specs.Exprs.{apply_op}
-use Rattle.ax_machine.specs.Entries.{Key, Entry, Out, lines_of}
+use Rattle.ax_machine.specs.Entries.{Key, Entry, lines_of}
 use Rattle.ax_machine.specs.Firings.{most_firings}
 use Rattle.ax_machine.specs.Sync.{sync}
 use Rattle.ax_machine.specs.Lawful.{IsPrefix, one_more, line_count, Lawful, LawfulSoFar, LawfulFor, LawfulSoFarFor}

@@ -2,7 +2,8 @@
 use Rattle.std.proofs.Common.{◌≡◌, ℕ, zero, suc, ◌+◌, ◌*◌, ◌-◌, ◌≤◌, ◌<◌, ℤ, int_le, List, [], ◌∷◌, length, Bool, true, false, ◌||◌, Option, Some, None, Ordering, Less, Equal, Greater, int_cmp, is_lt, is_gt, refl, sym, ap, ap₂, ◌∙◌, subst, arith, cond, ◌⊎◌, inl, inr, ⊎_elim}
 use Rattle.std.specs.Str.{bytes_eq}
 use Rattle.std.specs.List.{list_any}
-use Rattle.std.specs.Ordering.{ordering_then, ordering_reverse}
+use Rattle.std.specs.BTreeSet.{insert_key}
+use Rattle.std.specs.Ordering.{ordering_then, ordering_reverse, match_ordering}
 use Rattle.std.specs.Cmp.{IsTotalOrder}
 use Rattle.std.proofs.lemmas.Bool.{true≢false, or_right, cond-true, cond-false}
 use Rattle.std.proofs.lemmas.Cmp.{int_cmp_total, nat_list_cmp_total, on_total, then_total, upto, tied_itself}
@@ -40,6 +41,31 @@ has_cases false c e = inr e
 -- a key among keys is the first or one of the others
 pub among : (k j : Key) (ks : List Key) → list_any (bytes_eq k) (j ∷ ks) ≡ true → (k ≡ j) ⊎ (list_any (bytes_eq k) ks ≡ true)
 among k j ks e = ⊎_elim (λ h. inl (key_is k j h)) (λ h. inr h) (has_cases (bytes_eq k j) (list_any (bytes_eq k) ks) e)
+
+or_swap : (a b c : Bool) → (a || (b || c)) ≡ (b || (a || c))
+or_swap true true c = refl
+or_swap true false c = refl
+or_swap false b c = refl
+
+or_again : (a c : Bool) → (a || c) ≡ (a || (a || c))
+or_again true c = refl
+or_again false c = refl
+
+-- a key is among keys into which j was put where it is j or was there
+pub any_inserted : (k j : Key) (ks : List Key) → list_any (bytes_eq k) (insert_key key_cmp ks j) ≡ (bytes_eq k j || list_any (bytes_eq k) ks)
+any_inserted k j [] = refl
+any_inserted k j (x ∷ xs) = of (key_cmp j x) refl (any_inserted k j xs)
+  where
+    of : (o : Ordering) → key_cmp j x ≡ o → list_any (bytes_eq k) (insert_key key_cmp xs j) ≡ (bytes_eq k j || list_any (bytes_eq k) xs)
+        → list_any (bytes_eq k) (match_ordering o (j ∷ x ∷ xs) (x ∷ xs) (x ∷ insert_key key_cmp xs j)) ≡ (bytes_eq k j || (bytes_eq k x || list_any (bytes_eq k) xs))
+    of Less h more = refl
+    of Equal h more = or_again (bytes_eq k x) (list_any (bytes_eq k) xs) ∙ ap (λ (i : Key). bytes_eq k i || (bytes_eq k x || list_any (bytes_eq k) xs)) (sym (exact_bytes j x h))
+    of Greater h more = ap (λ (b : Bool). bytes_eq k x || b) more ∙ or_swap (bytes_eq k x) (bytes_eq k j) (list_any (bytes_eq k) xs)
+
+-- a key put among keys stands there, and so do those that stood there
+pub has_inserted : (k j : Key) (ks : List Key) → (k ≡ j) ⊎ (list_any (bytes_eq k) ks ≡ true) → list_any (bytes_eq k) (insert_key key_cmp ks j) ≡ true
+has_inserted k j ks (inl e) = any_inserted k j ks ∙ ap (λ (b : Bool). b || list_any (bytes_eq k) ks) ((bytes_eq-Decides k j).1 e)
+has_inserted k j ks (inr e) = any_inserted k j ks ∙ or_right (bytes_eq k j) (list_any (bytes_eq k) ks) e
 
 -- the order of the timers that are due
 due_total : IsTotalOrder due_cmp

@@ -1,11 +1,9 @@
 -- What the plain thread does to one key is what the thread of that key alone does.
-use Rattle.std.proofs.Common.{◌≡◌, ℕ, zero, suc, ◌*◌, ◌-◌, ◌≤◌, ◌<◌, ℤ, int_le, int_lt, List, [], ◌∷◌, ◌++◌, length, Bool, true, false, cond, Option, Some, None, Ordering, Less, Equal, Greater, refl, sym, ap, ◌∙◌, subst, arith, append_assoc, append-nil, ◌⊎◌, inl, inr, ⊎_elim}
+use Rattle.std.proofs.Common.{◌≡◌, ℕ, zero, suc, ◌*◌, ◌-◌, ◌≤◌, ◌<◌, ℤ, int_le, int_lt, List, [], ◌∷◌, ◌++◌, length, Bool, true, false, cond, Option, Some, None, refl, sym, ap, ◌∙◌, subst, arith, append_assoc, append-nil, ◌⊎◌, inl, inr}
 use Rattle.std.specs.Str.{bytes_eq}
 use Rattle.std.specs.List.{list_any}
 use Rattle.std.specs.BTreeSet.{insert_key}
-use Rattle.std.specs.Ordering.{match_ordering}
 use Rattle.std.proofs.lemmas.Bool.{both_ways, cond-true, cond-false}
-use Rattle.std.proofs.lemmas.Map.Lookups.{exact_bytes}
 use Rattle.ax_keys.specs.Keys.{key_cmp}
 use Rattle.ax_text.specs.KeyStates.{KeyState}
 use Rattle.ax_text.specs.Run.{World, state_after}
@@ -18,7 +16,7 @@ use Rattle.ax_machine.specs.Firings.{Due, most_firings, due_of, candidate, next_
 use Rattle.ax_machine.specs.Sync.{Plain, put_at, does, knows, row_step, without_least, fire, fire_next, fire_all, all_fired, at_watermark, writes, watermark_step, block_of, plain_step, plain_steps, plain_start, first_wm, sync}
 use Rattle.ax_machine.specs.KeySync.{Said, ran, fire_first, key_fires, KeyPlain, key_row, key_step, key_steps, untold, key_sync, IsProjected}
 use Rattle.ax_machine.proofs.FrontLemmas.{lines_of-append}
-use Rattle.ax_machine.proofs.FiringLemmas.{total, same_key, key_is, among, has_head, has_tail, IsOwn, candidate_own, IsNext, next_found, next_none, in_total, total_most, total_lt}
+use Rattle.ax_machine.proofs.FiringLemmas.{total, same_key, key_is, has_inserted, IsOwn, candidate_own, IsNext, next_found, next_none, in_total, total_most, total_lt}
 
 pub by_cases : {A : Type 0} (b : Bool) → (b ≡ true → A) → (b ≡ false → A) → A
 by_cases true p q = p refl
@@ -218,30 +216,6 @@ covered_put keys map j state known c = record {
       (λ x. absurd (both_ways (list_any (bytes_eq k) keys) h (subst (λ (i : Key). list_any (bytes_eq i) keys ≡ true) (key_is j k x) known)))
       (λ x. ap (λ (s : KeyState). s.times) (cond-false (bytes_eq j k) state (map k) x) ∙ c.none k h);
 }
-
-has_front : (k j : Key) (ks : List Key) → (k ≡ j) ⊎ (list_any (bytes_eq k) ks ≡ true) → list_any (bytes_eq k) (j ∷ ks) ≡ true
-has_front k j ks (inl h) = has_head k j ks h
-has_front k j ks (inr h) = has_tail k j ks h
-
-has_level : (k j x : Key) (xs : List Key) → j ≡ x → (k ≡ j) ⊎ (list_any (bytes_eq k) (x ∷ xs) ≡ true) → list_any (bytes_eq k) (x ∷ xs) ≡ true
-has_level k j x xs same (inl h) = has_head k x xs (h ∙ same)
-has_level k j x xs same (inr h) = h
-
-has_later : (k j x : Key) (xs ys : List Key) → ((k ≡ j) ⊎ (list_any (bytes_eq k) xs ≡ true) → list_any (bytes_eq k) ys ≡ true)
-    → (k ≡ j) ⊎ (list_any (bytes_eq k) (x ∷ xs) ≡ true) → list_any (bytes_eq k) (x ∷ ys) ≡ true
-has_later k j x xs ys go (inl h) = has_tail k x ys (go (inl h))
-has_later k j x xs ys go (inr h) = ⊎_elim (λ a. has_head k x ys a) (λ a. has_tail k x ys (go (inr a))) (among k x xs h)
-
-has_placed : (k j x : Key) (xs ys : List Key) → ((k ≡ j) ⊎ (list_any (bytes_eq k) xs ≡ true) → list_any (bytes_eq k) ys ≡ true) → (k ≡ j) ⊎ (list_any (bytes_eq k) (x ∷ xs) ≡ true)
-    → (o : Ordering) → key_cmp j x ≡ o → list_any (bytes_eq k) (match_ordering o (j ∷ x ∷ xs) (x ∷ xs) (x ∷ ys)) ≡ true
-has_placed k j x xs ys go e Less h = has_front k j (x ∷ xs) e
-has_placed k j x xs ys go e Equal h = has_level k j x xs (exact_bytes j x h) e
-has_placed k j x xs ys go e Greater h = has_later k j x xs ys go e
-
--- a key put among the keys stands there, and so do those that stood there
-pub has_inserted : (k j : Key) (ks : List Key) → (k ≡ j) ⊎ (list_any (bytes_eq k) ks ≡ true) → list_any (bytes_eq k) (insert_key key_cmp ks j) ≡ true
-has_inserted k j [] e = has_front k j [] e
-has_inserted k j (x ∷ xs) e = has_placed k j x xs (insert_key key_cmp xs j) (has_inserted k j xs) e (key_cmp j x) refl
 
 covered_inserted : (keys : List Key) (map : Key → KeyState) (j : Key) → AreCovered keys map → AreCovered (insert_key key_cmp keys j) map
 covered_inserted keys map j c = record {

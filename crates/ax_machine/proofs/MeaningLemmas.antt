@@ -1,5 +1,5 @@
 -- What a list that is lawful, or lawful so far, says.
-use Rattle.std.proofs.Common.{◌≡◌, ℕ, suc, ◌+◌, ◌≤◌, ℤ, List, [], ◌∷◌, ◌++◌, length, Bool, true, false, refl, sym, ap, ◌∙◌, arith, subst, append_assoc, length-append, append-nil}
+use Rattle.std.proofs.Common.{◌≡◌, ℕ, ◌+◌, ◌≤◌, List, [], ◌∷◌, ◌++◌, length, Bool, true, false, refl, sym, ap, ◌∙◌, arith, subst, length-append, append-nil}
 use Rattle.std.specs.Str.{bytes_eq}
 use mathlib.Core.Path.{fun_ext}
 use Rattle.ax_machine.specs.Entries.{Key, Marker, Watermark, Block, Entry, Out, Mark, lines_of}
@@ -167,7 +167,7 @@ has_place serial front rest plain marker h =
     let AllOf : List Cut → Type 0 = λ cs. HasAll cs (cuts plain) in
     let NoMoreOf : List Cut → Type 0 = λ cs. HasNoMore serial (line_count (front ++ Mark marker ∷ rest)) cs (cuts plain) in
     let pair : Pair serial (cuts front) here (cuts plain) = pair_of serial (line_count (front ++ Mark marker ∷ rest)) (cuts front) here further (cuts plain)
-        (subst Goes both h.markers) (subst AllOf both h.has_all) (subst NoMoreOf both h.has_no_more) in
+    (subst Goes both h.markers) (subst AllOf both h.has_all) (subst NoMoreOf both h.has_no_more) in
     place_of serial front rest plain marker h pair (found (λ k. 0) plain pair.fore pair.at pair.aft pair.stands)
 
 -- where a strict marker isn't written yet, no key has more lines than it has there
@@ -188,9 +188,9 @@ held_back serial written before behind marker h s first k =
     let plain : List Entry = before ++ Mark marker ∷ behind in
     let NoMoreOf : List Cut → Type 0 = HasNoMore serial (line_count written) (cuts written) in
     let few : length (cuts written) ≤ length (cuts before) =
-        omega (arith, prefix_count (markers (cuts written)) (markers (cuts before)) first, marker_count (cuts written), marker_count (cuts before)) in
+    omega (arith, prefix_count (markers (cuts written)) (markers (cuts before)) first, marker_count (cuts written), marker_count (cuts before)) in
     let most : line_count written k ≤ counts before k = waits serial (line_count written) (cuts written) (cuts before) (record { marker = marker; lines = counts before }) (cuts_from (counts before) behind)
-        (subst NoMoreOf (cuts_at before behind marker) h.has_no_more) few s k in
+    (subst NoMoreOf (cuts_at before behind marker) h.has_no_more) few s k in
     shorter_front (lines_of k written) (lines_of k before) (lines_of k plain) (h.lines k) (front_lines k before (Mark marker ∷ behind) plain refl) (omega (arith, most, count_is before k))
 
 -- a whole list, and the front of one

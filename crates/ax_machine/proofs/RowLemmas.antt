@@ -1,13 +1,9 @@
 -- The keys are those of the rows, and of another key nothing is there.
-use Rattle.std.proofs.Common.{◌≡◌, ℕ, ◌*◌, ℤ, int_lt, List, [], ◌∷◌, Bool, true, false, ◌||◌, cond, Ordering, Less, Equal, Greater, length, refl, sym, ap, ◌∙◌}
+use Rattle.std.proofs.Common.{◌≡◌, ℕ, ◌*◌, ℤ, int_lt, List, [], ◌∷◌, Bool, true, false, ◌||◌, cond, length, refl, sym, ap, ◌∙◌}
 use Rattle.std.specs.Str.{bytes_eq}
 use Rattle.std.specs.List.{list_any}
-use Rattle.std.specs.BTreeSet.{insert_key}
-use Rattle.std.specs.Ordering.{match_ordering}
 use Rattle.std.proofs.lemmas.Bool.{or_parts, cond-false}
 use Rattle.std.proofs.lemmas.Cmp.{nat_list_eq_equiv}
-use Rattle.std.proofs.lemmas.Map.Lookups.{exact_bytes}
-use Rattle.ax_keys.specs.Keys.{key_cmp}
 use Rattle.ax_text.specs.KeyStates.{fresh}
 use Rattle.ax_text.specs.Programs.{Program, kinds_of}
 use Rattle.ax_text.specs.Jobs.{lines_in}
@@ -16,12 +12,8 @@ use Rattle.ax_machine.specs.Events.{Event, Row, Mark, Barrier, has_row}
 use Rattle.ax_machine.specs.Firings.{most_firings, due_of}
 use Rattle.ax_machine.specs.Sync.{Plain, all_fired, at_watermark, writes, plain_step, plain_steps, plain_start, first_wm, sync}
 use Rattle.ax_machine.specs.KeySync.{Said, key_fires, KeyPlain, key_row, key_step, key_steps, untold, key_sync}
+use Rattle.ax_machine.proofs.FiringLemmas.{any_inserted}
 use Rattle.ax_machine.proofs.KeyLemmas.{not_due, fire_all_beside, is_projected}
-
-or_swap : (a b c : Bool) → (a || (b || c)) ≡ (b || (a || c))
-or_swap true true c = refl
-or_swap true false c = refl
-or_swap false b c = refl
 
 or_across : (a b c : Bool) → (a || (b || c)) ≡ ((b || a) || c)
 or_across true true c = refl
@@ -29,24 +21,9 @@ or_across true false c = refl
 or_across false true c = refl
 or_across false false c = refl
 
-or_again : (a c : Bool) → (a || c) ≡ (a || (a || c))
-or_again true c = refl
-or_again false c = refl
-
 or_end : (a : Bool) → a ≡ (a || false)
 or_end true = refl
 or_end false = refl
-
--- a key is among keys into which j was put where it is j or was there
-any_inserted : (k j : Key) (ks : List Key) → list_any (bytes_eq k) (insert_key key_cmp ks j) ≡ (bytes_eq k j || list_any (bytes_eq k) ks)
-any_inserted k j [] = refl
-any_inserted k j (x ∷ xs) = of (key_cmp j x) refl (any_inserted k j xs)
-  where
-    of : (o : Ordering) → key_cmp j x ≡ o → list_any (bytes_eq k) (insert_key key_cmp xs j) ≡ (bytes_eq k j || list_any (bytes_eq k) xs)
-        → list_any (bytes_eq k) (match_ordering o (j ∷ x ∷ xs) (x ∷ xs) (x ∷ insert_key key_cmp xs j)) ≡ (bytes_eq k j || (bytes_eq k x || list_any (bytes_eq k) xs))
-    of Less h more = refl
-    of Equal h more = or_again (bytes_eq k x) (list_any (bytes_eq k) xs) ∙ ap (λ (i : Key). bytes_eq k i || (bytes_eq k x || list_any (bytes_eq k) xs)) (sym (exact_bytes j x h))
-    of Greater h more = ap (λ (b : Bool). bytes_eq k x || b) more ∙ or_swap (bytes_eq k x) (bytes_eq k j) (list_any (bytes_eq k) xs)
 
 keys_if : (b : Bool) (s t : Plain) → s.keys ≡ t.keys → (cond b s t).keys ≡ t.keys
 keys_if true s t e = e

@@ -1,11 +1,11 @@
 -- Watermarks that are skipped.
-use Rattle.std.proofs.Common.{◌≡◌, ℕ, ◌*◌, ℤ, int_lt, List, [], ◌∷◌, Bool, true, false, cond, length, refl, sym, ap, ◌∙◌, subst}
-use Rattle.std.proofs.lemmas.Bool.{cond-true, cond-false}
+use Rattle.std.proofs.Common.{◌≡◌, ℕ, ◌*◌, ℤ, int_lt, List, [], ◌∷◌, Bool, true, false, cond, length, refl, ap, ◌∙◌, subst}
+use Rattle.std.proofs.lemmas.Bool.{cond-true}
 use Rattle.ax_text.specs.Programs.{Program}
-use Rattle.ax_machine.specs.Entries.{Key, Watermark}
+use Rattle.ax_machine.specs.Entries.{Watermark}
 use Rattle.ax_machine.specs.Events.{Event, Row, Mark, Barrier, without_skipped}
 use Rattle.ax_machine.specs.Firings.{most_firings}
-use Rattle.ax_machine.specs.Sync.{Plain, all_fired, at_watermark, writes, watermark_step, plain_step, plain_steps, plain_start, first_wm, sync}
+use Rattle.ax_machine.specs.Sync.{Plain, all_fired, at_watermark, writes, plain_step, plain_steps, plain_start, first_wm, sync}
 use Rattle.ax_machine.proofs.KeyLemmas.{fire_all_beside}
 
 -- at a watermark, where the further events may be so cut in each state behind it

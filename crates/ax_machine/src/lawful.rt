@@ -1,9 +1,12 @@
 //! Laws of lawful lists: what a list that is lawful, or lawful so far, says to a reader, and what makes one of another.
 ghost use Rattle.std.specs.Prelude.{◌≡◌, ℕ, List, Bool, true, false, ◌∷◌, ◌++◌};
 ghost use Rattle.ax_text.specs.Programs.{Program};
+ghost use Rattle.ax_text.specs.Jobs.{lines_in};
 ghost use Rattle.ax_machine.specs.Entries.{Key, Marker, Entry, Mark, lines_of};
 ghost use Rattle.ax_machine.specs.Events.{Event};
-ghost use Rattle.ax_machine.specs.Lawful.{IsPrefix, IsStrict, HasPlace, cuts, markers, Lawful, LawfulSoFar, LawfulSoFarFor};
+ghost use Rattle.ax_machine.specs.Lawful.{IsPrefix, IsStrict, HasPlace, cuts, markers, Lawful, LawfulSoFar, LawfulFor, LawfulSoFarFor};
+ghost use Rattle.ax_machine.specs.Sync.{sync};
+ghost use Rattle.ax_machine.specs.KeySync.{key_sync};
 
 /// What the plain thread writes is lawful: each list is lawful for itself.
 pub fn lawful_itself()
@@ -52,4 +55,13 @@ pub fn serial_keeps_cuts()
 pub fn serial_is_parallel()
     ensures whole { (written plain : List Entry) → Lawful true written plain → Lawful false written plain }
     ensures so_far { (written plain : List Entry) → LawfulSoFar true written plain → LawfulSoFar false written plain }
+{}
+
+/// A list that is lawful for events has each key's lines as the thread of that key alone says them, one job after another,
+/// and the markers of the plain thread.
+pub fn lawful_lists_tell_the_same()
+    ensures lines { (m : ℕ) (serial : Bool) (p : Program) (events : List Event) (written : List Entry) → LawfulFor m serial p events written
+        → (k : Key) → lines_of k written ≡ lines_in (key_sync p k events).said.groups }
+    ensures markers { (m : ℕ) (serial : Bool) (p : Program) (events : List Event) (written : List Entry) → LawfulFor m serial p events written
+        → markers (cuts written) ≡ markers (cuts (sync m p events).entries) }
 {}

@@ -5,6 +5,7 @@ ghost use Rattle.std.specs.List.{list_any, filter};
 ghost use Rattle.std.specs.List.Sorted.{IsStrictlySortedBy};
 ghost use Rattle.std.specs.Ordering.{int_cmp};
 ghost use Rattle.ax_keys.specs.Keys.{key_cmp};
+ghost use Rattle.ax_text.specs.Cells.{Cells, empty_cell, kind_of};
 ghost use Rattle.ax_text.specs.KeyStates.{fresh};
 ghost use Rattle.ax_text.specs.Programs.{State, Program, kinds_of};
 ghost use Rattle.ax_machine.specs.Entries.{Key, lines_of};
@@ -43,10 +44,12 @@ pub fn skipped_watermarks_change_nothing()
 {}
 
 /// A block has each key's lines, in whatever order the parts were given.
-/// A key that was never touched, or has neither state nor timer, has no line, so it may be left out.
+/// A key that has neither state nor timer, as one that was never touched, has no line, so it may be left out.
 pub fn blocks_have_the_lines_of_keys()
     ensures lines { (m : ℕ) (states : List State) (id wm : ℤ) (parts others : List Part) → ((k : Key) → lines_among states k parts ≡ lines_among states k others)
         → block_text m states id wm parts ≡ block_text m states id wm others }
+    ensures empty { (states : List State) (k : Key) (cells : Cells) → ((i : ℕ) → cells i ≡ empty_cell (kind_of (cells i)))
+        → part_lines states (record { key = k; state = record { cells = cells; times = [] } }) ≡ [] }
     ensures untouched { (states : List State) (k : Key) → part_lines states (record { key = k; state = fresh (kinds_of states) }) ≡ [] }
     ensures left_out { (m : ℕ) (states : List State) (id wm : ℤ) (keys : List Key) (map : Map) (kept : Key → Bool)
         → ((k : Key) → kept k ≡ false → part_lines states (record { key = k; state = map k }) ≡ [])
