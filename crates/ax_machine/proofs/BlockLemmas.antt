@@ -1,5 +1,5 @@
 -- A block has each key's lines, whatever the order of its parts.
-use Rattle.std.proofs.Common.{◌≡◌, ℕ, zero, suc, ◌+◌, ◌≤◌, ℤ, List, [], ◌∷◌, ◌++◌, length, Bool, true, false, cond, Ordering, Less, Equal, Greater, refl, sym, ap, ap₂, ◌∙◌, arith, subst, append_assoc}
+use Rattle.std.proofs.Common.{◌≡◌, ℕ, zero, suc, ◌+◌, ◌≤◌, ℤ, List, [], ◌∷◌, ◌++◌, length, Bool, true, false, cond, Ordering, Less, Equal, Greater, refl, sym, ap, ap₂, ◌∙◌, arith, subst}
 use Rattle.std.specs.Bool.{Decides}
 use Rattle.std.specs.Str.{bytes_eq}
 use Rattle.std.specs.List.{AllByRecursion, filter, slice_index_or}
@@ -22,16 +22,12 @@ use Rattle.ax_text.specs.Cells.{Cells, empty_cell, kind_of}
 use Rattle.ax_text.specs.KeyStates.{fresh}
 use Rattle.ax_text.specs.Programs.{State, kinds_of, untouched}
 use Rattle.ax_machine.specs.Entries.{Key}
-use Rattle.ax_machine.specs.OutLines.{OutLine, spelled, lines_text}
+use Rattle.ax_machine.specs.OutLines.{OutLine, lines_text}
 use Rattle.ax_machine.specs.Blocks.{Part, block_cmp, placed_from, placed, cell_lines, state_lines, part_lines, inner_lines, lines_from, lines_among, framed, block_text}
 use Rattle.ax_machine.specs.Sync.{Map, parts_of}
 use Rattle.ax_machine.proofs.FiringLemmas.{then_equal}
 use Rattle.ax_machine.proofs.KeyLemmas.{by_cases}
 use Rattle.ax_machine.proofs.RisingLemmas.{rising_put}
-
-pub lines_text-append : (xs ys : List OutLine) → lines_text (xs ++ ys) ≡ lines_text xs ++ lines_text ys
-lines_text-append [] ys = refl
-lines_text-append (l ∷ xs) ys = ap (λ t. spelled l ++ t) (lines_text-append xs ys) ∙ sym (append_assoc (spelled l) (lines_text xs) (lines_text ys))
 
 -- entries that rise by their keys, where each value gives some items
 module _ {K X L : Type 0} (R : K → K → Ordering) (order : IsTotalOrder R) (exact : CmpEqualImpliesEq R) (eq : K → K → Bool) (decides : (a b : K) → Decides (eq a b) (a ≡ b)) (f : X → List L) where

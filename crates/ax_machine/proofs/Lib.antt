@@ -10,3 +10,4 @@ pub mod RisingLemmas
 pub mod RowLemmas
 pub mod SkipLemmas
 pub mod StepLemmas
+pub mod TextLemmas

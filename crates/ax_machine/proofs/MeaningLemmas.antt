@@ -1,10 +1,9 @@
 -- What a list that is lawful, or lawful so far, says.
-use Rattle.std.proofs.Common.{◌≡◌, ℕ, ◌+◌, ◌≤◌, List, [], ◌∷◌, ◌++◌, length, Bool, true, false, refl, sym, ap, ◌∙◌, arith, subst, length-append, append-nil}
-use Rattle.std.specs.Str.{bytes_eq}
+use Rattle.std.proofs.Common.{◌≡◌, ℕ, ◌≤◌, List, [], ◌∷◌, ◌++◌, length, Bool, true, false, refl, sym, ap, ◌∙◌, arith, subst, length-append, append-nil}
 use mathlib.Core.Path.{fun_ext}
 use Rattle.ax_machine.specs.Entries.{Key, Marker, Watermark, Block, Entry, Out, Mark, lines_of}
 use Rattle.ax_machine.specs.Lawful.{IsPrefix, Cut, one_more, cuts_from, cuts, markers, HasAll, IsStrict, HasNoMore, line_count, LawfulSoFar, Lawful, HasPlace}
-use Rattle.ax_machine.proofs.FrontLemmas.{lines_of-append, counts_behind, cuts_from-append, counts_behind-is, markers-append, more_if, prefix_longer, prefix_count}
+use Rattle.ax_machine.proofs.FrontLemmas.{counts_behind, cuts_from-append, prefix_count, counts, count_is, front_lines, written_first}
 
 same_head : {A : Type 0} {x y : A} {xs ys : List A} → x ∷ xs ≡ y ∷ ys → x ≡ y
 same_head e = cc
@@ -109,25 +108,6 @@ found n (Mark m ∷ es) (f ∷ fore) at aft e =
       lines = later.lines;
     }
 
--- how many lines each key has behind entries, from the first one on
-abbrev counts : List Entry → Key → ℕ
-counts es = counts_behind (λ k. 0) es
-
-count_is : (es : List Entry) (k : Key) → counts es k ≡ line_count es k
-count_is es k = let all : counts es k ≡ 0 + line_count es k = counts_behind-is (λ j. 0) es k in omega (arith, all)
-
--- what stands first has its lines first
-front_lines : (k : Key) (xs ys zs : List Entry) → zs ≡ xs ++ ys → IsPrefix (lines_of k xs) (lines_of k zs)
-front_lines k xs ys zs e = (lines_of k ys, ap (lines_of k) e ∙ lines_of-append k xs ys)
-
--- a front of a front
-front_of_front : {A : Type 0} (xs ys zs : List A) → IsPrefix xs ys → IsPrefix ys zs → IsPrefix xs zs
-front_of_front xs ys zs p q = prefix_longer xs ys q.0 zs q.1 p
-
-written_first : (serial : Bool) (front rest plain : List Entry) → LawfulSoFar serial (front ++ rest) plain → (k : Key) → IsPrefix (lines_of k front) (lines_of k plain)
-written_first serial front rest plain h k =
-    front_of_front (lines_of k front) (lines_of k (front ++ rest)) (lines_of k plain) (front_lines k front rest (front ++ rest) refl) (h.lines k)
-
 cuts_at : (front rest : List Entry) (marker : Marker) → cuts (front ++ Mark marker ∷ rest) ≡ cuts front ++ record { marker = marker; lines = counts front } ∷ cuts_from (counts front) rest
 cuts_at front rest marker = cuts_from-append (λ k. 0) front (Mark marker ∷ rest)
 
@@ -192,56 +172,6 @@ held_back serial written before behind marker h s first k =
     let most : line_count written k ≤ counts before k = waits serial (line_count written) (cuts written) (cuts before) (record { marker = marker; lines = counts before }) (cuts_from (counts before) behind)
     (subst NoMoreOf (cuts_at before behind marker) h.has_no_more) few s k in
     shorter_front (lines_of k written) (lines_of k before) (lines_of k plain) (h.lines k) (front_lines k before (Mark marker ∷ behind) plain refl) (omega (arith, most, count_is before k))
-
--- a whole list, and the front of one
-none_more : {A : Type 0} (xs ys : List A) → xs ≡ ys → IsPrefix xs ys
-none_more xs ys e = ([], sym e ∙ sym (append-nil xs))
-
-pub whole_so_far : (serial : Bool) (written plain : List Entry) → Lawful serial written plain → LawfulSoFar serial written plain
-whole_so_far serial written plain h = record {
-  lines = λ k. none_more (lines_of k written) (lines_of k plain) (h.lines k);
-  markers = none_more (markers (cuts written)) (markers (cuts plain)) h.markers;
-  has_all = h.has_all;
-  has_no_more = h.has_no_more;
-}
-
-all_first : (cs more ds : List Cut) → HasAll (cs ++ more) ds → HasAll cs ds
-all_first [] more ds h = tt
-all_first (c ∷ cs) more [] h = absurd h
-all_first (c ∷ cs) more (d ∷ ds) h = (h.0, all_first cs more ds h.1)
-
-less_waits : (serial : Bool) (all less : Key → ℕ) (ds : List Cut) → ((k : Key) → less k ≤ all k) → HasNoMore serial all [] ds → HasNoMore serial less [] ds
-less_waits serial all less [] few h = tt
-less_waits serial all less (d ∷ ds) few h = (λ s k. omega (arith, few k, h.0 s k), less_waits serial all less ds few h.1)
-
-rest_waits : (serial : Bool) (all less n : Key → ℕ) (es : List Entry) (ds : List Cut) → ((k : Key) → less k ≤ all k) → ((k : Key) → less k ≤ n k)
-    → HasNoMore serial all (cuts_from n es) ds → HasNoMore serial less [] ds
-rest_waits serial all less n [] ds few at h = less_waits serial all less ds few h
-rest_waits serial all less n (Out j line ∷ es) ds few at h =
-    rest_waits serial all less (one_more n j) es ds few (λ k. let more = more_if (bytes_eq j k) (n k) in omega (arith, at k, more)) h
-rest_waits serial all less n (Mark m ∷ es) [] few at h = tt
-rest_waits serial all less n (Mark m ∷ es) (d ∷ ds) few at h = (λ s k. omega (arith, at k, h.0 s k), rest_waits serial all less n es ds few at h.1)
-
-no_more_first : (serial : Bool) (all less n : Key → ℕ) (cs : List Cut) (es : List Entry) (ds : List Cut) → ((k : Key) → less k ≤ all k) → ((k : Key) → less k ≤ n k)
-    → HasNoMore serial all (cs ++ cuts_from n es) ds → HasNoMore serial less cs ds
-no_more_first serial all less n [] es ds few at h = rest_waits serial all less n es ds few at h
-no_more_first serial all less n (c ∷ cs) es [] few at h = tt
-no_more_first serial all less n (c ∷ cs) es (d ∷ ds) few at h = (h.0, no_more_first serial all less n cs es ds few at h.1)
-
-pub first_so_far : (serial : Bool) (front rest plain : List Entry) → LawfulSoFar serial (front ++ rest) plain → LawfulSoFar serial front plain
-first_so_far serial front rest plain h =
-    let both : cuts (front ++ rest) ≡ cuts front ++ cuts_from (counts front) rest = cuts_from-append (λ k. 0) front rest in
-    let further : List Cut = cuts_from (counts front) rest in
-    let AllOf : List Cut → Type 0 = λ cs. HasAll cs (cuts plain) in
-    let NoMoreOf : List Cut → Type 0 = λ cs. HasNoMore serial (line_count (front ++ rest)) cs (cuts plain) in
-    record {
-      lines = written_first serial front rest plain h;
-      markers = front_of_front (markers (cuts front)) (markers (cuts (front ++ rest))) (markers (cuts plain)) (markers further, ap markers both ∙ markers-append (cuts front) further) h.markers;
-      has_all = all_first (cuts front) further (cuts plain) (subst AllOf both h.has_all);
-      has_no_more = no_more_first serial (line_count (front ++ rest)) (line_count front) (counts front) (cuts front) rest (cuts plain)
-          (λ k. prefix_count (lines_of k front) (lines_of k (front ++ rest)) (front_lines k front rest (front ++ rest) refl))
-          (λ k. omega (arith, count_is front k)) (subst NoMoreOf both h.has_no_more);
-    }
 
 -- in serial mode each marker is strict
 all_strict : (m : Marker) → IsStrict true m

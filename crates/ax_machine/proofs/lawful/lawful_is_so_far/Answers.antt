@@ -1,4 +1,4 @@
-use Rattle.ax_machine.proofs.MeaningLemmas.{whole_so_far, first_so_far}
+use Rattle.ax_machine.proofs.FrontLemmas.{whole_so_far, first_so_far}
 use Rattle.ax_machine.proofs.lawful.lawful_is_so_far.Goals as goal
 
 pub returns-clause-whole : goal.returns-clause-whole
