@@ -8,6 +8,7 @@ use Rattle.ax_text.specs.declared.vocabulary.Atom.TheVariants as atom
 use Rattle.ax_text.specs.Exprs.{Expr, Leaf, Join}
 use Rattle.ax_text.specs.Texts.{Stop, Act, Ask, Emit, Timer, Get, Put}
 use Rattle.ax_text.specs.Programs.{Program}
+use Rattle.ax_text.specs.Jobs.{Job, Group}
 use Rattle.ax_machine.specs.Entries.{Entry, Out, Watermark, Block}
 use Rattle.ax_machine.specs.Entries as entry
 use Rattle.ax_machine.specs.Events.{Event, Row, Mark, Barrier}
@@ -118,3 +119,7 @@ last_a = Out (codes "a") (pos 1 ∷ pos 5 ∷ [])
 
 abbrev pub mixed_entries : List Entry
 mixed_entries = first_a ∷ firing_a ∷ mark_3 ∷ row_b ∷ block_1 ∷ last_a ∷ []
+
+-- a job, its lines, and how many of its requests were served
+abbrev pub group : Job → List (List ℤ) → ℕ → Group
+group job lines served = record { job = job; lines = lines; served = served }

@@ -1,10 +1,12 @@
 //! Worked examples as laws: what the plain thread writes for small programs and events, and which lists are refused in its place.
 ghost use Rattle.std.specs.Prelude.{◌≡◌, [], ◌∷◌, Bool, true, false, codes, pos};
+ghost use Rattle.ax_text.specs.Jobs.{row_job, firing_job};
 ghost use Rattle.ax_machine.specs.Entries.{Out};
 ghost use Rattle.ax_machine.specs.Events.{Mark, Barrier};
-ghost use Rattle.ax_machine.specs.Sync.{sync};
+ghost use Rattle.ax_machine.specs.Sync.{first_wm, sync};
+ghost use Rattle.ax_machine.specs.KeySync.{key_sync};
 ghost use Rattle.ax_machine.specs.Lawful.{LawfulFor, LawfulSoFarFor};
-ghost use Rattle.ax_machine.specs.Examples.{counting, clicks, line, alarm, late_alarm, same_alarm, three_alarms, ticking, ticks, many_ticks, lasting, saved, watermark, block, mixed, mixed_entries, first_a, firing_a, mark_3, row_b, block_1, last_a};
+ghost use Rattle.ax_machine.specs.Examples.{counting, clicks, line, alarm, late_alarm, same_alarm, three_alarms, ticking, ticks, many_ticks, lasting, saved, watermark, block, mixed, mixed_entries, first_a, firing_a, mark_3, row_b, block_1, last_a, group};
 
 /// The counting program, over rows of two keys by turns.
 pub fn counts_by_key()
@@ -55,6 +57,15 @@ pub fn empty_block()
 pub fn block_by_group()
     ensures { (sync 128 lasting saved).entries
         ≡ watermark (pos 2) ∷ block (codes "s 1 2" ∷ codes "c b c 1" ∷ codes "c a c 12" ∷ codes "t a 3" ∷ codes "e 1 3" ∷ []) ∷ [] }
+{}
+
+/// The groups of one key: each job that ran on it, with its lines and how many of its requests were served.
+pub fn groups_of_one_key()
+    ensures rows { (key_sync counting (codes "a") clicks).said.groups
+        ≡ group (row_job first_wm (pos 1) (pos 5 ∷ [])) ((pos 5 ∷ []) ∷ []) 2 ∷ group (row_job first_wm (pos 3) (pos 7 ∷ [])) ((pos 12 ∷ []) ∷ []) 2 ∷ [] }
+    ensures firing { (key_sync alarm (codes "a") mixed).said.groups
+        ≡ group (row_job first_wm (pos 1) (pos 3 ∷ [])) ((pos 1 ∷ pos 1 ∷ []) ∷ []) 0 ∷ group (firing_job (pos 3) (pos 3)) ((pos 2 ∷ pos 3 ∷ pos 3 ∷ []) ∷ []) 0
+        ∷ group (row_job (pos 3) (pos 5) (pos 9 ∷ [])) ((pos 1 ∷ pos 5 ∷ []) ∷ []) 0 ∷ [] }
 {}
 
 /// A timer that fires, a row behind its watermark, a barrier, and a row behind that: the list that those below are held against.
