@@ -6,4 +6,5 @@ pub mod Words
 pub mod Pieces
 pub mod Lines
 pub mod Given
+pub mod Gathered
 pub mod Reader

@@ -14,6 +14,7 @@
 #![tactic(auto)]
 
 mod find;
+pub mod gather;
 pub mod lines;
 pub mod lists;
 pub mod memory;
@@ -25,6 +26,7 @@ mod tests;
 mod window;
 pub mod words;
 
+pub use gather::{Begun, Gather, Room};
 pub use lines::{Line, LineFault, Lines};
 pub use lists::{Bytes, Duplicate, ListOf, Nums, Pair, Pairs};
 pub use memory::{MemSink, MemSource, SureSink, SureSource};

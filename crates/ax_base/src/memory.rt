@@ -1,5 +1,5 @@
 //! Sources and sinks in memory.
-ghost use Rattle.std.specs.Prelude.{◌≡◌, ◌≤◌, ◌<◌, ◌++◌, if◌then◌else◌, [], ℕ, List, Some, None, length, take, drop, IfOk, IsOkAnd, OnErr, min};
+ghost use Rattle.std.specs.Prelude.{◌≡◌, ◌≤◌, ◌<◌, ◌++◌, if◌then◌else◌, [], ℕ, List, Some, length, take, drop, IfOk, IsOkAnd, OnErr, min};
 ghost use Rattle.std.specs.Io.KnownBytes.{Consumes, Appends, Keeps, IsAtEnd};
 ghost use Rattle.std.specs.List.{list_any};
 ghost use Rattle.std.specs.Bool.{OnTrue, OnFalse};
@@ -114,7 +114,7 @@ impl Sink for SureSink {
 
     ghost counts = { λ s. record { faults = 0; short = s.short } };
 
-    ghost base = { λ s. None };
+    ghost base = { λ s. 0 };
 
     fn write(&mut self, piece: &[u8]) -> Result<usize, SinkFault> {
         match self.bytes.extend_from_slice(piece) {
@@ -301,7 +301,7 @@ impl Sink for MemSink {
 
     ghost counts = { λ s. counts_of s.script };
 
-    ghost base = { λ s. None };
+    ghost base = { λ s. 0 };
 
     /// Takes as many bytes as `most` and the piece allow. It fails exactly where the number of the
     /// call stands in the list of those that fail.

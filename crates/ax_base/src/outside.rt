@@ -58,8 +58,8 @@ pub trait Sink {
     /// How often a write failed, and how often memory was short.
     ghost counts: { Self → Counts };
 
-    /// What was held at first by the sink to which the bytes go in the end, where one sink hands on to another. It never changes.
-    ghost base: { Self → Option (List ℕ) };
+    /// By which name a sink that hands on to another one knows it. It never changes, so that whoever lent the other sink knows that it is still that one.
+    ghost base: { Self → ℕ };
 
     /// Takes at least one byte from the front of `piece`, and says how many. Condition: `piece` is
     /// not empty.

@@ -1,5 +1,5 @@
 //! A reader as a source, and a writer as a sink.
-ghost use Rattle.std.specs.Prelude.{◌≡◌, None};
+ghost use Rattle.std.specs.Prelude.{◌≡◌};
 
 use crate::outside::{Failed, Sink, SinkFault, Source};
 use std::io::{Read, Write};
@@ -84,7 +84,7 @@ impl<W: Write> Sink for WriteSink<W> {
 
     ghost counts = { λ s. record { faults = s.faults; short = 0 } };
 
-    ghost base = { λ s. None };
+    ghost base = { λ s. 0 };
 
     fn write(&mut self, piece: &[u8]) -> Result<usize, SinkFault> {
         match self.inner.write(piece) {
