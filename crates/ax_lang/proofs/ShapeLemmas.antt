@@ -2,8 +2,8 @@
 use Rattle.std.proofs.Common.{◌≡◌, ℤ, pos, negsuc, List, [], ◌∷◌, refl, Bool, true, false, ◌&&◌, nat_le, Option, Some, None, if◌then◌else◌}
 use Rattle.std.proofs.lemmas.Bool.{leb-true}
 use Rattle.ax_base.specs.Numbers.{number_of}
-use Rattle.ax_syntax.specs.declared.words.Keyword.{Keyword}
-use Rattle.ax_syntax.specs.declared.words.Keyword.TheVariants as k
+use Rattle.ax_text.specs.declared.vocabulary.Keyword.{Keyword}
+use Rattle.ax_text.specs.declared.vocabulary.Keyword.TheVariants as k
 use Rattle.ax_syntax.specs.declared.shape.KindWord.{KindWord}
 use Rattle.ax_syntax.specs.Words.{Word, keyword_of, is_name}
 use Rattle.ax_syntax.specs.Shapes.{Shape, Input, State, GetAt, Has, Empty, Let, Get, Put, Add, Remove, Clear, If, Each, EachPair, Emit, Timer, Untimer, when, fields_of, input_of, kind_word, state_by, state_of, on_by, on_of, is_equals, let_of, before_or, behind_or, get_by, get_of, has_of, empty_of, assigned_by, assign_of, put_of, add_of, remove_of, clear_of, each_of, alone, shape_by, shape_of}

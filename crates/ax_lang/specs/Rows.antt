@@ -8,8 +8,8 @@ use Rattle.ax_text.specs.declared.vocabulary.Atom.TheVariants as atom
 use Rattle.ax_text.specs.Exprs.{Expr, Leaf}
 use Rattle.ax_text.specs.Texts.{Quiet, Asking, Text, Stop, Act, Ask}
 use Rattle.ax_text.specs.Texts as text
-use Rattle.ax_syntax.specs.declared.words.Keyword.{Keyword}
-use Rattle.ax_syntax.specs.declared.words.Keyword.TheVariants as k
+use Rattle.ax_text.specs.declared.vocabulary.Keyword.{Keyword}
+use Rattle.ax_text.specs.declared.vocabulary.Keyword.TheVariants as k
 use Rattle.ax_syntax.specs.Words.{Word, same_word, keyword_of, field_number, sign_of}
 use Rattle.ax_syntax.specs.Shapes.{Shape, Get, Put, Emit, Timer, Untimer, parts_of}
 use Rattle.ax_expr.specs.declared.tree.Token.{Token}
