@@ -1,3 +1,4 @@
+pub mod ExprLemmas
 pub mod StepLemmas
 pub mod ProgramLemmas
 pub mod RowLemmas

@@ -1,16 +1,18 @@
 -- A table of steps, one statement more.
-use Rattle.std.proofs.Common.{◌≡◌, ◌∙◌, ℕ, suc, ◌+◌, ◌≤◌, List, [], ◌∷◌, ◌++◌, map, length, refl, sym, ap, arith, Bool, true, ◌&&◌, nat_le, length-append}
+use Rattle.std.proofs.Common.{◌≡◌, ◌∙◌, ℕ, suc, ◌+◌, ◌≤◌, List, [], ◌∷◌, ◌++◌, map, length, refl, sym, ap, arith, Bool, true, false, ◌&&◌, nat_le, length-append, Option}
 use Rattle.std.specs.List.{list_all}
 use Rattle.std.proofs.lemmas.Bool.{and_parts, and_from, le-leb}
 use Rattle.std.proofs.lemmas.List.{map-append}
 use Rattle.std.proofs.lemmas.List.Folds.{list_all-append}
 use Rattle.ax_text.specs.declared.vocabulary.Kind.{Kind}
 use Rattle.ax_text.specs.Texts.{Text, Stop}
+use Rattle.ax_text.specs.Valid.{quiet_fits, asking_fits, text_fits, timer_fits}
 use Rattle.ax_lang.specs.declared.step.Stmt.{Stmt}
 use Rattle.ax_lang.specs.declared.step.Step.{Step}
-use Rattle.ax_lang.specs.Rows.{Statement, with_row, text_of}
-use Rattle.ax_lang.specs.Steps.{shown_statement, text_in, texts_from, text_at, GoesOn, stmt_fits, steps_fit}
+use Rattle.ax_lang.specs.Rows.{Statement, Acts, Asks, with_row, text_of, text_if, statement_fits}
+use Rattle.ax_lang.specs.Steps.{shown_statement, text_in, texts_from, text_at, text_some, GoesOn, whole_fits, steps_fit}
 use Rattle.ax_lang.proofs.StepLemmas.{text_more, text_last, texts_length}
+use Rattle.ax_lang.proofs.ExprLemmas.{statement_more}
 
 -- rows before a text
 abbrev pub rows_before : List Statement → Text → Text
@@ -37,11 +39,11 @@ text_pushed ss s =
     ap (λ (n : ℕ). text_in (texts_from [] (ss ++ s ∷ [])) (suc n)) e
     ∙ (ap (λ (us : List Text). text_in us (suc (length ts))) (texts_last ss [] s) ∙ text_last ts _)
 
-fits_pushed : (ss : List Step) (s : Step) (locals n : ℕ) (ks : List Kind) → steps_fit locals ks n ss ≡ true → s.next ≤ n + length ss → stmt_fits locals ks s.stmt ≡ true → steps_fit locals ks n (ss ++ s ∷ []) ≡ true
-fits_pushed [] s locals n ks f h g = and_from (nat_le s.next n && stmt_fits locals ks s.stmt) true (and_from (nat_le s.next n) (stmt_fits locals ks s.stmt) (le-leb s.next n (omega arith)) g) refl
-fits_pushed (r ∷ ss) s locals n ks f h g =
-    let a = and_parts (nat_le r.next n && stmt_fits locals ks r.stmt) (steps_fit locals ks (n + 1) ss) f in
-    and_from (nat_le r.next n && stmt_fits locals ks r.stmt) (steps_fit locals ks (n + 1) (ss ++ s ∷ [])) a.0 (fits_pushed ss s locals (n + 1) ks a.1 (omega arith) g)
+fits_pushed : (ss : List Step) (s : Step) (fields locals n : ℕ) (ks : List Kind) → steps_fit fields locals ks n ss ≡ true → s.next ≤ n + length ss → whole_fits fields locals ks s.stmt ≡ true → steps_fit fields locals ks n (ss ++ s ∷ []) ≡ true
+fits_pushed [] s fields locals n ks f h g = and_from (nat_le s.next n && whole_fits fields locals ks s.stmt) true (and_from (nat_le s.next n) (whole_fits fields locals ks s.stmt) (le-leb s.next n (omega arith)) g) refl
+fits_pushed (r ∷ ss) s fields locals n ks f h g =
+    let a = and_parts (nat_le r.next n && whole_fits fields locals ks r.stmt) (steps_fit fields locals ks (n + 1) ss) f in
+    and_from (nat_le r.next n && whole_fits fields locals ks r.stmt) (steps_fit fields locals ks (n + 1) (ss ++ s ∷ [])) a.0 (fits_pushed ss s fields locals (n + 1) ks a.1 (omega arith) g)
 
 -- the last statement is taken off
 all_popped : (p : Stmt → Bool) (all rest : List Stmt) (s : Stmt) → all ≡ rest ++ s ∷ [] → list_all p all ≡ true → (list_all p rest ≡ true) × (p s ≡ true)
@@ -59,8 +61,8 @@ text_kept ss s p h =
 
 -- how far the statements of `all` fit that stand in the table
 abbrev pub FitsSoFar : List Stmt → List Stmt → List Step → List Step → Type 0
-FitsSoFar all rest before now = (locals : ℕ) → (ks : List Kind) → steps_fit locals ks 0 before ≡ true → list_all (stmt_fits locals ks) all ≡ true
-    → (steps_fit locals ks 0 now ≡ true) × (list_all (stmt_fits locals ks) rest ≡ true)
+FitsSoFar all rest before now = (fields locals : ℕ) → (ks : List Kind) → steps_fit fields locals ks 0 before ≡ true → list_all (whole_fits fields locals ks) all ≡ true
+    → (steps_fit fields locals ks 0 now ≡ true) × (list_all (whole_fits fields locals ks) rest ≡ true)
 
 pub linked_text : (all rest : List Stmt) (s : Stmt) (ss now : List Step) (next place : ℕ) → all ≡ rest ++ s ∷ [] → now ≡ ss ++ record { stmt = s; next = next } ∷ [] → place ≡ length now
     → rows_before (map shown_statement rest) (text_at now place) ≡ rows_before (map shown_statement all) (text_at ss next)
@@ -82,10 +84,10 @@ linked_stays before ss now s f h go = λ p low. ap (λ (zs : List Step). text_at
 
 pub linked_fits : (whole all rest : List Stmt) (s : Stmt) (before ss now : List Step) (next : ℕ) → all ≡ rest ++ s ∷ [] → now ≡ ss ++ record { stmt = s; next = next } ∷ [] → next ≤ length ss
     → FitsSoFar whole all before ss → FitsSoFar whole rest before now
-linked_fits whole all rest s before ss now next e f h go = λ locals ks a b.
-    let fit = go locals ks a b in
-    let p = all_popped (stmt_fits locals ks) all rest s e fit.1 in
-    (ap (steps_fit locals ks 0) f ∙ fits_pushed ss (record { stmt = s; next = next }) locals 0 ks fit.0 (omega arith) p.1, p.0)
+linked_fits whole all rest s before ss now next e f h go = λ fields locals ks a b.
+    let fit = go fields locals ks a b in
+    let p = all_popped (whole_fits fields locals ks) all rest s e fit.1 in
+    (ap (steps_fit fields locals ks 0) f ∙ fits_pushed ss (record { stmt = s; next = next }) fields locals 0 ks fit.0 (omega arith) p.1, p.0)
 
 pub text_end : (ss : List Step) → text_at ss 0 ≡ Stop
 unfolding text_at
@@ -94,3 +96,34 @@ text_end ss = refl
 pub none_left : (ss : List Stmt) → length ss ≡ 0 → ss ≡ []
 none_left [] h = refl
 none_left (s ∷ ss) h = absurd (omega arith)
+
+-- a handler's text fits where its statements do
+pub text_fits_rows : (fields locals : ℕ) (ks : List Kind) (stmts : List Stmt) → list_all (whole_fits fields locals ks) stmts ≡ true → text_fits fields locals ks (text_of (map shown_statement stmts)) ≡ true
+text_fits_rows fields locals ks [] h = refl
+text_fits_rows fields locals ks (s ∷ ss) h =
+    let a = and_parts (whole_fits fields locals ks s) (list_all (whole_fits fields locals ks) ss) h in
+    row_first fields locals ks (shown_statement s) (text_of (map shown_statement ss)) a.0 (text_fits_rows fields locals ks ss a.1)
+  where
+    row_first : (fields locals : ℕ) (ks : List Kind) (r : Statement) (t : Text) → statement_fits fields locals ks r ≡ true → text_fits fields locals ks t ≡ true → text_fits fields locals ks (with_row r t) ≡ true
+    row_first fields locals ks (Acts q) t x y = and_from (quiet_fits fields locals q) (text_fits fields locals ks t) x y
+    row_first fields locals ks (Asks a) t x y = and_from (asking_fits fields locals ks a) (text_fits fields locals ks t) x y
+
+-- what stands at a place of a table fits, behind more steps too
+pub row_linked : (fields locals : ℕ) (ks : List Kind) (stmts : List Stmt) (before after : List Step) (place : ℕ) → list_all (whole_fits fields locals ks) stmts ≡ true → text_at before place ≡ text_of (map shown_statement stmts)
+    → place ≤ length before → GoesOn before after → text_fits fields locals ks (text_at after place) ≡ true
+row_linked fields locals ks stmts before after place h e low go =
+    ap (text_fits fields locals ks) (go place low ∙ e) ∙ text_fits_rows fields locals ks stmts h
+
+pub timer_linked : (locals : ℕ) (ks : List Kind) (has : Bool) (stmts : List Stmt) (after : List Step) (place : Option ℕ) → list_all (whole_fits 0 locals ks) stmts ≡ true → text_some after place ≡ text_if has (map shown_statement stmts)
+    → timer_fits locals ks (text_some after place) ≡ true
+timer_linked locals ks has stmts after place h e = ap (timer_fits locals ks) e ∙ cases has where
+  cases : (b : Bool) → timer_fits locals ks (text_if b (map shown_statement stmts)) ≡ true
+  cases true = text_fits_rows 0 locals ks stmts h
+  cases false = refl
+
+-- statements of a timer fit where a row has values
+pub stmts_more : (fields locals : ℕ) (ks : List Kind) (stmts : List Stmt) → list_all (whole_fits 0 locals ks) stmts ≡ true → list_all (whole_fits fields locals ks) stmts ≡ true
+stmts_more fields locals ks [] h = refl
+stmts_more fields locals ks (s ∷ ss) h =
+    let a = and_parts (whole_fits 0 locals ks s) (list_all (whole_fits 0 locals ks) ss) h in
+    and_from (whole_fits fields locals ks s) (list_all (whole_fits fields locals ks) ss) (statement_more 0 fields locals locals ks (shown_statement s) (omega arith) (omega arith) a.0) (stmts_more fields locals ks ss a.1)

@@ -1,14 +1,22 @@
 -- What stands at the places of a table of steps.
-use Rattle.std.proofs.Common.{◌≡◌, ◌∙◌, ℕ, zero, suc, ◌+◌, ◌≤◌, ◌<◌, List, [], ◌∷◌, ◌++◌, length, get_or, refl, sym, ap, arith, length-append, true, ◌&&◌, nat_le, max, Option, Some, None}
+use Rattle.std.proofs.Common.{◌≡◌, ◌∙◌, ℕ, zero, suc, ◌+◌, ◌≤◌, ◌<◌, List, [], ◌∷◌, ◌++◌, length, get_or, refl, sym, ap, arith, length-append, true, ◌&&◌, nat_le, nat_lt, max, Option, Some, None}
 use Rattle.std.proofs.lemmas.Bool.{and_parts, leb-true}
+use Rattle.std.proofs.lemmas.List.{length-map}
 use Rattle.ax_text.specs.declared.vocabulary.Kind.{Kind}
+use Rattle.ax_text.specs.declared.vocabulary.Kind.TheVariants as kind
+use Rattle.ax_text.specs.Names.{Word}
+use Rattle.ax_text.specs.Valid.{has_kind, expr_fits, names_of}
 use Rattle.ax_text.specs.Texts.{Text, Stop, Act, Ask}
 use Rattle.ax_text.specs.Programs.{width, width_some, kinds_of}
 use Rattle.ax_state.specs.declared.decls.Decl.{Decl}
-use Rattle.ax_state.specs.Decls.{kinds, shown_states}
+use Rattle.ax_state.specs.Decls.{kinds, state, shown_states}
+use Rattle.ax_expr.specs.Shown.{shown_expr}
 use Rattle.ax_lang.specs.declared.step.Step.{Step}
+use Rattle.ax_lang.specs.declared.step.Stmt.{Stmt}
+use Rattle.ax_lang.specs.declared.step.Stmt.TheVariants as code
+use Rattle.ax_lang.specs.Tables.{state_names}
 use Rattle.ax_lang.specs.Rows.{with_row}
-use Rattle.ax_lang.specs.Steps.{shown_statement, text_in, texts_from, stmt_fits, steps_fit}
+use Rattle.ax_lang.specs.Steps.{shown_statement, text_in, texts_from, stmt_fits, whole_fits, steps_fit}
 
 pub program_kinds : (ds : List Decl) → kinds ds ≡ kinds_of (shown_states ds)
 program_kinds [] = refl
@@ -48,34 +56,34 @@ texts_stay (s ∷ ss) xs p h =
     let e : length (xs ++ x ∷ []) ≡ length xs + 1 = length-append xs (x ∷ []) in
     texts_stay ss (xs ++ x ∷ []) p (omega arith) ∙ text_more xs (x ∷ []) p h
 
-fits_here : (locals n : ℕ) (ks : List Kind) (s : Step) (ss : List Step) → steps_fit locals ks n (s ∷ ss) ≡ true
-    → (s.next ≤ n) × (stmt_fits locals ks s.stmt ≡ true) × (steps_fit locals ks (n + 1) ss ≡ true)
-fits_here locals n ks s ss h =
-    let a = and_parts (nat_le s.next n && stmt_fits locals ks s.stmt) (steps_fit locals ks (n + 1) ss) h in
-    let b = and_parts (nat_le s.next n) (stmt_fits locals ks s.stmt) a.0 in
+fits_here : (fields locals n : ℕ) (ks : List Kind) (s : Step) (ss : List Step) → steps_fit fields locals ks n (s ∷ ss) ≡ true
+    → (s.next ≤ n) × (whole_fits fields locals ks s.stmt ≡ true) × (steps_fit fields locals ks (n + 1) ss ≡ true)
+fits_here fields locals n ks s ss h =
+    let a = and_parts (nat_le s.next n && whole_fits fields locals ks s.stmt) (steps_fit fields locals ks (n + 1) ss) h in
+    let b = and_parts (nat_le s.next n) (whole_fits fields locals ks s.stmt) a.0 in
     (leb-true s.next n b.0, b.1, a.1)
 
 -- a step's text is its row before the text of the place that it leads to
-pub step_stands : (ss : List Step) (xs : List Text) (locals n : ℕ) (ks : List Kind) (i q : ℕ) (d : Step) → n ≡ length xs → q ≡ n + i → steps_fit locals ks n ss ≡ true → i < length ss
-    → (text_in (texts_from xs ss) (suc q) ≡ with_row (shown_statement (get_or ss i d).stmt) (text_in (texts_from xs ss) (get_or ss i d).next)) × ((get_or ss i d).next ≤ q) × (stmt_fits locals ks (get_or ss i d).stmt ≡ true)
-step_stands [] xs locals n ks i q d m w f h = absurd (omega arith)
-step_stands (s ∷ ss) xs locals n ks zero q d m w f h =
+pub step_stands : (ss : List Step) (xs : List Text) (fields locals n : ℕ) (ks : List Kind) (i q : ℕ) (d : Step) → n ≡ length xs → q ≡ n + i → steps_fit fields locals ks n ss ≡ true → i < length ss
+    → (text_in (texts_from xs ss) (suc q) ≡ with_row (shown_statement (get_or ss i d).stmt) (text_in (texts_from xs ss) (get_or ss i d).next)) × ((get_or ss i d).next ≤ q) × (whole_fits fields locals ks (get_or ss i d).stmt ≡ true)
+step_stands [] xs fields locals n ks i q d m w f h = absurd (omega arith)
+step_stands (s ∷ ss) xs fields locals n ks zero q d m w f h =
     let x : Text = with_row (shown_statement s.stmt) (text_in xs s.next) in
     let ys : List Text = xs ++ x ∷ [] in
     let e : length ys ≡ length xs + 1 = length-append xs (x ∷ []) in
-    let g = fits_here locals n ks s ss f in
+    let g = fits_here fields locals n ks s ss f in
     let low : s.next ≤ n = g.0 in
     let here : suc q ≡ suc (length xs) = omega arith in (
       ap (λ (p : ℕ). text_in (texts_from ys ss) p) here ∙ (texts_stay ss ys (suc (length xs)) (omega arith) ∙ (text_last xs x ∙ ap (with_row (shown_statement s.stmt)) (sym (texts_stay ss ys s.next (omega arith) ∙ text_more xs (x ∷ []) s.next (omega arith))))),
       omega arith,
       g.1,
     )
-step_stands (s ∷ ss) xs locals n ks (suc i) q d m w f h =
+step_stands (s ∷ ss) xs fields locals n ks (suc i) q d m w f h =
     let x : Text = with_row (shown_statement s.stmt) (text_in xs s.next) in
     let ys : List Text = xs ++ x ∷ [] in
     let e : length ys ≡ length xs + 1 = length-append xs (x ∷ []) in
-    let g = fits_here locals n ks s ss f in
-    step_stands ss ys locals (n + 1) ks i q d (omega arith) (omega arith) g.2 (omega arith)
+    let g = fits_here fields locals n ks s ss f in
+    step_stands ss ys fields locals (n + 1) ks i q d (omega arith) (omega arith) g.2 (omega arith)
 
 -- past the last place nothing stands
 pub nothing_past : (ts : List Text) (i : ℕ) → length ts ≤ i → text_in ts (suc i) ≡ Stop
@@ -89,3 +97,18 @@ texts_length (s ∷ ss) xs =
     let x : Text = with_row (shown_statement s.stmt) (text_in xs s.next) in
     let e : length (xs ++ x ∷ []) ≡ length xs + 1 = length-append xs (x ∷ []) in
     texts_length ss (xs ++ x ∷ []) ∙ omega arith
+
+-- the local name and the state of a statement exist
+pub target_fits : (fields locals : ℕ) (ks : List Kind) (s : Stmt) → whole_fits fields locals ks s ≡ true → stmt_fits locals ks s ≡ true
+target_fits fields locals ks (code.Get name state missing) h = (and_parts (nat_lt name locals && has_kind ks state kind.Value) (expr_fits fields locals (shown_expr missing)) h).0
+target_fits fields locals ks (code.Put state number) h = (and_parts (has_kind ks state kind.Value) (expr_fits fields locals (shown_expr number)) h).0
+target_fits fields locals ks (code.Emit values) h = refl
+target_fits fields locals ks (code.SetTimer time) h = refl
+target_fits fields locals ks (code.UnsetTimer time) h = refl
+
+pub named_states : (ds : List Decl) → state_names ds ≡ names_of (shown_states ds)
+named_states [] = refl
+named_states (d ∷ ds) = ap (λ (ws : List Word). d.name ∷ ws) (named_states ds)
+
+pub length_shown : (ds : List Decl) → length (shown_states ds) ≡ length ds
+length_shown ds = length-map ds state

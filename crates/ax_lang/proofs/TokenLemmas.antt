@@ -3,7 +3,8 @@ use Rattle.std.proofs.Common.{◌≡◌, ◌∙◌, ℕ, ◌+◌, ◌-◌, List,
 use Rattle.std.proofs.lemmas.Bool.{and_parts, and_from, eqb-true, true≢false, false≢true}
 use lib.Chars.{codes}
 use Rattle.ax_text.specs.declared.vocabulary.Op.{Op}
-use Rattle.ax_syntax.specs.Words.{Word, same_word, sign_of, is_operand, is_name, keyword_of}
+use Rattle.ax_text.specs.Names.{Word, same_word, is_name, keyword_of}
+use Rattle.ax_syntax.specs.Words.{sign_of, is_operand}
 use Rattle.ax_syntax.specs.Shapes.{goes_on, is_expr}
 use Rattle.ax_expr.specs.declared.tree.Token.{Token}
 use Rattle.ax_expr.specs.declared.tree.Token.TheVariants as token
@@ -20,7 +21,7 @@ if_false : {A : Type 0} (b : Bool) (x y : A) → b ≡ false → (if b then x el
 if_false true x y h = absurd (true≢false h)
 if_false false x y h = refl
 
-same_equal : (a b : Word) → same_word a b ≡ true → a ≡ b
+pub same_equal : (a b : Word) → same_word a b ≡ true → a ≡ b
 same_equal [] [] h = refl
 same_equal [] (y ∷ ys) h = absurd (false≢true h)
 same_equal (x ∷ xs) [] h = absurd (false≢true h)

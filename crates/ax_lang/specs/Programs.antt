@@ -10,7 +10,7 @@ use Rattle.ax_lang.specs.declared.program.Program.{Program as CodeProgram}
 use Rattle.ax_lang.specs.declared.reader.SectionEnd.{SectionEnd}
 use Rattle.ax_lang.specs.declared.reader.ProgFault.{ProgFault}
 use Rattle.ax_lang.specs.declared.reader.ProgFault.TheVariants as fault
-use Rattle.ax_lang.specs.Tables.{fault_by, after, start}
+use Rattle.ax_lang.specs.Tables.{fault_by, after, start, fields_or}
 use Rattle.ax_lang.specs.Rows.{HandlerRows, no_rows, joined, rows_by, text_of, text_if}
 use Rattle.ax_lang.specs.Shown.{shown_program}
 
@@ -53,10 +53,6 @@ pub data Reading : Type 0 where
 abbrev pub or_fault : Option ℕ → ℕ → Reading → Reading
 or_fault None line go = go
 or_fault (Some kind) line go = Faulty line kind
-
-abbrev pub fields_or : Option ℕ → ℕ
-fields_or None = 0
-fields_or (Some n) = n
 
 -- nothing is due at the end
 unfoldable pub is_whole : Tables → Bool

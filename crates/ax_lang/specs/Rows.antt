@@ -5,11 +5,13 @@ use Rattle.ax_base.specs.Numbers.{number_of}
 use Rattle.ax_text.specs.declared.vocabulary.Op.{Op}
 use Rattle.ax_text.specs.declared.vocabulary.Atom.{Atom}
 use Rattle.ax_text.specs.declared.vocabulary.Atom.TheVariants as atom
+use Rattle.ax_text.specs.declared.vocabulary.Kind.{Kind}
 use Rattle.ax_text.specs.Exprs.{Expr, Leaf}
 use Rattle.ax_text.specs.Texts.{Quiet, Asking, Text, Stop, Act, Ask}
 use Rattle.ax_text.specs.Texts as text
-use Rattle.ax_syntax.specs.declared.words.Keyword.{Keyword}
-use Rattle.ax_syntax.specs.declared.words.Keyword.TheVariants as k
+use Rattle.ax_text.specs.Valid.{quiet_fits, asking_fits}
+use Rattle.ax_text.specs.declared.vocabulary.Keyword.{Keyword}
+use Rattle.ax_text.specs.declared.vocabulary.Keyword.TheVariants as k
 use Rattle.ax_syntax.specs.Words.{Word, same_word, keyword_of, field_number, sign_of}
 use Rattle.ax_syntax.specs.Shapes.{Shape, Get, Put, Emit, Timer, Untimer, parts_of}
 use Rattle.ax_expr.specs.declared.tree.Token.{Token}
@@ -21,6 +23,11 @@ use Rattle.ax_lang.specs.Tables.{state_names}
 pub data Statement : Type 0 where
   Acts : (quiet : Quiet) → Statement
   Asks : (asking : Asking) → Statement
+
+-- what a statement speaks of exists, where a row has so many values and there are so many local names and these states
+abbrev pub statement_fits : ℕ → ℕ → List Kind → Statement → Bool
+statement_fits fields locals kinds (Acts quiet) = quiet_fits fields locals quiet
+statement_fits fields locals kinds (Asks asking) = asking_fits fields locals kinds asking
 
 -- the rows of the two handlers
 pub record HandlerRows : Type 0 where

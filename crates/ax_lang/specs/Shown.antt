@@ -7,7 +7,7 @@ use Rattle.ax_state.specs.Decls.{shown_states}
 use Rattle.ax_lang.specs.declared.step.Step.{Step}
 use Rattle.ax_lang.specs.declared.program.Program.{Program as CodeProgram}
 use Rattle.ax_lang.specs.Rows.{with_row}
-use Rattle.ax_lang.specs.Steps.{shown_statement, text_at, text_some, stmt_fits}
+use Rattle.ax_lang.specs.Steps.{shown_statement, text_at, text_some, stmt_fits, whole_fits}
 
 -- the text from a place of a program on
 unfoldable pub text_from : CodeProgram → ℕ → Text
@@ -29,3 +29,4 @@ locals_of p = p.locals
 abbrev pub StandsAt : CodeProgram → ℕ → Option Step → Type 0
 StandsAt p place None = text_from p place ≡ Stop
 StandsAt p place (Some s) = (text_from p place ≡ with_row (shown_statement s.stmt) (text_from p s.next)) × (s.next < place) × (stmt_fits (locals_of p) (shown_kinds p) s.stmt ≡ true)
+    × (whole_fits (shown_program p).fields (locals_of p) (shown_kinds p) s.stmt ≡ true)

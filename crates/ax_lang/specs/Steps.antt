@@ -11,7 +11,7 @@ use Rattle.ax_lang.specs.declared.step.Stmt.{Stmt}
 use Rattle.ax_lang.specs.declared.step.Stmt.TheVariants as code
 use Rattle.ax_lang.specs.declared.step.Step.{Step}
 use Rattle.ax_lang.specs.declared.step.Handlers.{Handlers}
-use Rattle.ax_lang.specs.Rows.{Statement, Acts, Asks, HandlerRows, with_row}
+use Rattle.ax_lang.specs.Rows.{Statement, Acts, Asks, HandlerRows, with_row, statement_fits}
 
 abbrev pub shown_statement : Stmt → Statement
 shown_statement (code.Get name state missing) = Asks (text.Get name state (shown_expr missing))
@@ -57,11 +57,15 @@ stmt_fits locals kinds (code.Emit values) = true
 stmt_fits locals kinds (code.SetTimer time) = true
 stmt_fits locals kinds (code.UnsetTimer time) = true
 
+-- so do the names, values and states of its expressions, where a row has so many values
+abbrev pub whole_fits : ℕ → ℕ → List Kind → Stmt → Bool
+whole_fits fields locals kinds s = statement_fits fields locals kinds (shown_statement s)
+
 -- each statement fits, and its step leads to a lower place; n steps stand before
-abbrev pub steps_fit : ℕ → List Kind → ℕ → List Step → Bool
-steps_fit locals kinds n [] = true
-steps_fit locals kinds n (s ∷ ss) = (nat_le s.next n && stmt_fits locals kinds s.stmt) && steps_fit locals kinds (n + 1) ss
+abbrev pub steps_fit : ℕ → ℕ → List Kind → ℕ → List Step → Bool
+steps_fit fields locals kinds n [] = true
+steps_fit fields locals kinds n (s ∷ ss) = (nat_le s.next n && whole_fits fields locals kinds s.stmt) && steps_fit fields locals kinds (n + 1) ss
 
 -- where the table fits and so do these statements, the table with them does
 abbrev pub FitsWith : List Stmt → List Step → List Step → Type 0
-FitsWith stmts before after = (locals : ℕ) → (kinds : List Kind) → steps_fit locals kinds 0 before ≡ true → list_all (stmt_fits locals kinds) stmts ≡ true → steps_fit locals kinds 0 after ≡ true
+FitsWith stmts before after = (fields locals : ℕ) → (kinds : List Kind) → steps_fit fields locals kinds 0 before ≡ true → list_all (whole_fits fields locals kinds) stmts ≡ true → steps_fit fields locals kinds 0 after ≡ true

@@ -8,13 +8,10 @@ use Rattle.ax_text.specs.declared.vocabulary.Op.TheVariants as op
 use Rattle.ax_state.specs.declared.decls.Decl.{Decl}
 use Rattle.ax_syntax.specs.declared.shape.KindWord.{KindWord}
 use Rattle.ax_syntax.specs.declared.shape.KindWord.TheVariants as word
+pub use Rattle.ax_text.specs.Names.{mem}
 use Rattle.ax_syntax.specs.Words.{Word, same_word, is_name, is_value_word, field_number, sign_of}
 use Rattle.ax_syntax.specs.Shapes.{Shape, Input, State, OnRow, OnTimer, End, Get, Put, Else, With, Emit, Timer, Untimer, parts_of}
 use Rattle.ax_lang.specs.declared.tables.Tables.{Tables}
-
-abbrev pub mem : Word → List Word → Bool
-mem w [] = false
-mem w (x ∷ xs) = same_word x w || mem w xs
 
 abbrev pub state_names : List Decl → List Word
 state_names decls = map (λ d. d.name) decls
@@ -165,6 +162,11 @@ with_word (Some w) ws = if mem w ws then ws else ws ++ w ∷ []
 
 abbrev pub with_statement : Shape → Tables → Tables
 with_statement s t = record t { locals = with_word (set_of s) t.locals; statements = t.statements + 1 }
+
+-- how many values a row has, so far as the lines say it
+abbrev pub fields_or : Option ℕ → ℕ
+fields_or None = 0
+fields_or (Some n) = n
 
 -- the most local names that a handler has so far
 unfoldable pub most_locals : Tables → ℕ

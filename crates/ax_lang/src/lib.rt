@@ -9,7 +9,7 @@ pub mod rows;
 pub mod step;
 pub mod tables;
 
-pub use laws::expression_law;
+pub use laws::{expression_law, program_is_valid};
 pub use program::Program;
 pub use reader::{ProgFault, SectionEnd, read_program};
 pub use step::{Handlers, Step, Stmt};

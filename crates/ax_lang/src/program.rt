@@ -5,7 +5,10 @@ ghost use Rattle.std.specs.Option.{option_copied};
 ghost use Rattle.ax_text.specs.Programs.{text_or_stop, program_width};
 ghost use Rattle.ax_state.specs.Decls.{kinds, shown_states};
 ghost use Rattle.ax_lang.specs.Rows.{text_of, text_if};
-ghost use Rattle.ax_lang.specs.Steps.{shown_statement, text_at, text_some, GoesOn, stmt_fits, steps_fit, FitsWith};
+ghost use Rattle.ax_lang.specs.Steps.{shown_statement, text_at, text_some, GoesOn, whole_fits, steps_fit, FitsWith};
+ghost use Rattle.ax_lang.specs.Tables.{state_names};
+ghost use Rattle.ax_text.specs.Names.{is_name, are_distinct};
+ghost use Rattle.ax_text.specs.Valid.{text_fits, timer_fits};
 
 use crate::step::{Handlers, Step, Stmt};
 use ax_base::NoMemory;
@@ -24,7 +27,11 @@ pub struct Program {
     ghost few_fields: { fields ≤ 16 },
     ghost few_states: { length decls ≤ 64 },
     ghost few_locals: { locals ≤ 256 },
-    ghost fits: { steps_fit locals (kinds decls) 0 steps.items ≡ true },
+    ghost named: { list_all is_name (state_names decls) ≡ true },
+    ghost distinct: { are_distinct (state_names decls) ≡ true },
+    ghost fits: { steps_fit fields locals (kinds decls) 0 steps.items ≡ true },
+    ghost row_fits: { text_fits fields locals (kinds decls) (text_at steps.items row) ≡ true },
+    ghost timer_fits: { timer_fits locals (kinds decls) (text_some steps.items timer) ≡ true },
 }
 
 impl Program {
@@ -32,9 +39,10 @@ impl Program {
 
     /// The program of these statements; those of `on timer` count where there is one.
     ///
-    /// Conditions: at most 16 values, 64 states and 256 local names, and each statement's local name and state exist.
-    #[tactic(auto, unfolding(crate::specs::Shown::shown_program))]
-    pub fn new(
+    /// Conditions: at most 16 values, 64 states and 256 local names; the states' names are names and differ; and what the
+    /// statements and their expressions speak of exists, where those of `on timer` have no values of a row.
+    #[tactic(auto, unfolding(crate::specs::Shown::shown_program), using(crate::proofs::LinkLemmas::stmts_more, crate::proofs::LinkLemmas::row_linked, crate::proofs::LinkLemmas::timer_linked))]
+    pub(crate) fn new(
         alloc: Global,
         fields: u8,
         decls: Decls,
@@ -45,8 +53,10 @@ impl Program {
         requires fields { fields ≤ 16 }
         requires states { length decls ≤ 64 }
         requires locals { locals ≤ 256 }
-        requires row { list_all (stmt_fits locals (kinds decls)) handlers.row.items ≡ true }
-        requires timer { list_all (stmt_fits locals (kinds decls)) handlers.timer.items ≡ true }
+        requires named { list_all is_name (state_names decls) ≡ true }
+        requires distinct { are_distinct (state_names decls) ≡ true }
+        requires row { list_all (whole_fits fields locals (kinds decls)) handlers.row.items ≡ true }
+        requires timer { list_all (whole_fits 0 locals (kinds decls)) handlers.timer.items ≡ true }
         ensures { IfOk result (λ p. shown_program p ≡ record { fields = fields; states = shown_states decls; row = text_of (map shown_statement handlers.row.items); timer = text_if has_timer (map shown_statement handlers.timer.items) }) }
     {
         let mut steps = Vec::new(alloc);

@@ -3,8 +3,8 @@ use Rattle.std.specs.Prelude.{ℕ, ℤ, pos, negsuc, ◌+◌, ◌-◌, List, [],
 use Rattle.std.specs.List.{list_all}
 use lib.Chars.{codes}
 use Rattle.ax_base.specs.Numbers.{number_of}
-use Rattle.ax_syntax.specs.declared.words.Keyword.{Keyword}
-use Rattle.ax_syntax.specs.declared.words.Keyword.TheVariants as k
+use Rattle.ax_text.specs.declared.vocabulary.Keyword.{Keyword}
+use Rattle.ax_text.specs.declared.vocabulary.Keyword.TheVariants as k
 use Rattle.ax_syntax.specs.declared.shape.KindWord.{KindWord}
 use Rattle.ax_syntax.specs.declared.shape.KindWord.TheVariants as kind
 use Rattle.ax_syntax.specs.declared.shape.Shape.{Shape as CodeShape}

@@ -4,8 +4,8 @@
 pub mod shape;
 pub mod words;
 
+pub use ax_text::Keyword;
 pub use shape::{KindWord, Shape};
-pub use words::Keyword;
 
 #[cfg(test)]
 mod tests;

@@ -3,8 +3,9 @@ ghost use Rattle.std.specs.Prelude.{◌≡◌, ◌<◌, ◌∷◌, [], length, M
 ghost use Rattle.ax_syntax.specs.Words.{keyword_of};
 ghost use Rattle.ax_syntax.specs.Shapes.{is_expr, is_exprs, parts_of, is_or, is_in, is_equals, kind_word, shown_shape, shape_some, input_of, state_of, on_of, let_of, before_or, behind_or, get_by, get_of, has_of, empty_of, assigned_by, assign_of, put_of, add_of, remove_of, clear_of, each_of, alone, when, shape_of, If as IfShape, Emit as EmitShape, Timer as TimerShape, Untimer as UntimerShape};
 
-use crate::words::{Keyword, is_name, is_operand, keyword_of, same, sign_of};
+use crate::words::{is_name, is_operand, keyword_of, same, sign_of};
 use ax_base::{Bytes, read_i64};
+use ax_text::Keyword;
 
 /// The kind that a `state` line names.
 #[derive(Clone, Copy, Debug, PartialEq, Eq)]

@@ -3,48 +3,12 @@ ghost use Rattle.std.specs.Prelude.{◌≡◌, IfOk};
 ghost use Rattle.std.specs.List.{list_all};
 ghost use Rattle.ax_base.specs.Numbers.{is_digit, are_digits, number_of};
 ghost use Rattle.ax_base.specs.Words.{words_of};
-ghost use Rattle.ax_syntax.specs.Words.{same_word, keyword_of, is_letter, is_name_byte, is_lettered, is_value_word, is_name, from_one_to_sixteen, unpadded, field_number, sign_of, is_moment, is_operand};
+ghost use Rattle.ax_text.specs.Names.{same_word, keyword_of, is_letter, is_name_byte, is_lettered, is_value_word, is_name};
+ghost use Rattle.ax_syntax.specs.Words.{from_one_to_sixteen, unpadded, field_number, sign_of, is_moment, is_operand};
 
 use ax_base::{Bytes, ListOf, NoMemory, read_i64, split_words};
-use ax_text::Op;
+use ax_text::{Keyword, Op};
 use std::alloc::Global;
-
-/// A reserved word.
-#[derive(Clone, Copy, Debug, PartialEq, Eq)]
-pub enum Keyword {
-    Input,
-    State,
-    Value,
-    List,
-    Map,
-    Reducing,
-    Sum,
-    Min,
-    Max,
-    On,
-    Row,
-    Timer,
-    End,
-    Let,
-    Get,
-    Or,
-    Has,
-    Empty,
-    Put,
-    Add,
-    Remove,
-    Clear,
-    If,
-    Else,
-    Each,
-    In,
-    Both,
-    With,
-    Emit,
-    Untimer,
-    Time,
-    Wm,
-}
 
 /// The words of a text, in order: its longest pieces without space, tab and carriage return. Fails only for want of memory.
 pub fn words(alloc: Global, text: &[u8]) -> Result<ListOf<Bytes>, NoMemory>
@@ -65,7 +29,7 @@ pub fn same(a: &[u8], b: &[u8]) -> bool
 }
 
 /// The reserved word that a word is.
-#[tactic(auto, unfolding(crate::specs::Words::keyword_of))]
+#[tactic(auto, unfolding(ax_text::specs::Names::keyword_of))]
 pub fn keyword_of(word: &[u8]) -> Option<Keyword>
     ensures { result ≡ keyword_of word.now }
 {
@@ -197,7 +161,7 @@ pub fn is_value_word(word: &[u8]) -> bool
 }
 
 /// Whether a word is a name: a letter from `a` to `z` and up to 31 such letters, digits and `_`, and not reserved.
-#[tactic(auto, unfolding(crate::specs::Words::is_name))]
+#[tactic(auto, unfolding(ax_text::specs::Names::is_name))]
 pub fn is_name(word: &[u8]) -> bool
     ensures { result ≡ is_name word.now }
 {

@@ -1,4 +1,5 @@
 pub mod Functions
+pub mod Names
 pub mod Exprs
 pub mod Cells
 pub mod Times
@@ -7,3 +8,4 @@ pub mod Programs
 pub mod KeyStates
 pub mod Run
 pub mod Jobs
+pub mod Valid

@@ -5,4 +5,4 @@
 
 pub mod vocabulary;
 
-pub use vocabulary::{Answer, Atom, Handler, Kind, Op, Request, TimerOp};
+pub use vocabulary::{Answer, Atom, Handler, Keyword, Kind, Op, Request, TimerOp};

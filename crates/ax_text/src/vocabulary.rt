@@ -2,6 +2,46 @@
 ghost use Rattle.std.specs.Prelude.{◌≡◌};
 ghost use Rattle.ax_text.specs.Cells.{state_of, kind_for};
 
+use ax_base::{Duplicate, NoMemory};
+use std::alloc::Global;
+
+/// A reserved word.
+#[derive(Clone, Copy, Debug, PartialEq, Eq)]
+pub enum Keyword {
+    Input,
+    State,
+    Value,
+    List,
+    Map,
+    Reducing,
+    Sum,
+    Min,
+    Max,
+    On,
+    Row,
+    Timer,
+    End,
+    Let,
+    Get,
+    Or,
+    Has,
+    Empty,
+    Put,
+    Add,
+    Remove,
+    Clear,
+    If,
+    Else,
+    Each,
+    In,
+    Both,
+    With,
+    Emit,
+    Untimer,
+    Time,
+    Wm,
+}
+
 /// What a declared state holds for a key.
 #[derive(Clone, Copy, Debug, PartialEq, Eq)]
 pub enum Kind {
@@ -42,7 +82,9 @@ pub enum Atom {
 /// A request to one state of a key. States are numbered from 0, in order of their declarations.
 #[derive(Debug, PartialEq, Eq, Drop)]
 pub enum Request {
+    /// The number of a value is asked for: `Found`, or `Missing` where the state is empty. Nothing changes.
     ValueGet { state: u8 },
+    /// The number of a value is set, whatever was there before: `Done`.
     ValuePut { state: u8, number: i64 },
 }
 
@@ -68,12 +110,37 @@ impl Request {
     }
 }
 
+impl Duplicate for Request {
+    fn copy(&self, _alloc: Global) -> Result<Request, NoMemory> {
+        match self {
+            Request::ValueGet { state } => Ok(Request::ValueGet { state: *state }),
+            Request::ValuePut { state, number } => Ok(Request::ValuePut {
+                state: *state,
+                number: *number,
+            }),
+        }
+    }
+}
+
 /// What a request answers.
 #[derive(Debug, PartialEq, Eq, Drop)]
 pub enum Answer {
+    /// What was asked is done; there is nothing to tell.
     Done,
+    /// The number that the state holds.
     Found { number: i64 },
+    /// The state holds nothing there.
     Missing,
+}
+
+impl Duplicate for Answer {
+    fn copy(&self, _alloc: Global) -> Result<Answer, NoMemory> {
+        match self {
+            Answer::Done => Ok(Answer::Done),
+            Answer::Found { number } => Ok(Answer::Found { number: *number }),
+            Answer::Missing => Ok(Answer::Missing),
+        }
+    }
 }
 
 /// What a handler does to the timers of its key.

@@ -10,7 +10,7 @@ loop-stmt-init c = record {
   place = omega arith;
   longer = omega arith;
   stays = λ place low. refl;
-  fits = λ locals ks a b. (a, b);
+  fits = λ fields locals ks a b. (a, b);
 }
 
 pub loop-stmt-preserved : goal.loop-stmt-preserved

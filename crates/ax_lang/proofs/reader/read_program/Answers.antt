@@ -11,7 +11,7 @@ use Rattle.ax_lang.specs.Sound.{Sound}
 use Rattle.ax_lang.specs.Programs.{Reading, shape_in, tables_of, ReadsProgram, after_in, fault_in, rows_in}
 use Rattle.ax_lang.proofs.RowLemmas.{both}
 use Rattle.ax_lang.proofs.SoundLemmas.{sound_line, sound_start}
-use Rattle.ax_lang.proofs.ShapeLemmas.{shape_small}
+use Rattle.ax_lang.proofs.ShapeLemmas.{shape_well}
 use Rattle.ax_lang.proofs.ReadingLemmas.{tables_more, rows_more, line_taken, fault_told, read_done, read_start, tables_start, rows_start}
 use Rattle.ax_lang.proofs.reader.read_program.Goals as goal
 
@@ -40,7 +40,7 @@ loop-line-preserved c =
     let taken : P d = c.in_default.ensures in
     let here : P (get_or ls i d) = subst P c.line-item.is taken in
     let s = shape_in (get_or ls i d) in
-    let sound : Sound (after_in t s) (joined rows (rows_in t s)) = sound_line t rows s c.loop-line.invariant.sound (shape_small (words_of (get_or ls i d).text)) here.0 in
+    let sound : Sound (after_in t s) (joined rows (rows_in t s)) = sound_line t rows s c.loop-line.invariant.sound (shape_well (words_of (get_or ls i d).text)) here.0 in
     record {
       tables = here.1 ∙ (ap (λ (u : Tables). after_in u s) c.loop-line.invariant.tables ∙ sym (tables_more ls i d in_range));
       rows = here.2 ∙ (ap (λ (u : Tables). joined rows (rows_in u s)) c.loop-line.invariant.tables ∙ (ap (λ (rs : HandlerRows). joined rs (rows_in (tables_of (take i ls)) s)) c.loop-line.invariant.rows ∙ sym (rows_more ls i d in_range)));
