@@ -18,7 +18,8 @@ use Rattle.ax_account.specs.declared.part.Waiting.{Waiting}
 use Rattle.ax_account.specs.declared.part.Waiting.TheVariants.{Row, Mark}
 use Rattle.ax_account.specs.declared.part.Next.TheVariants.{Free}
 use Rattle.ax_account.specs.Parts.{Part, free, is_free, kept, waits, owned, next_of, taken_up, may_idle}
-use Rattle.ax_account.specs.Queues.{key_cmp, same_key, has_key, without, AreDistinct}
+use Rattle.ax_keys.specs.Keys.{key_cmp}
+use Rattle.ax_account.specs.Queues.{same_key, has_key, without, AreDistinct}
 use Rattle.ax_account.specs.Accounts.{Parts, Accounts, Sets, Changes, AreSound, occupied}
 use Rattle.ax_account.proofs.QueueLemmas.{key_is, key_laws, at_true, at_false, IsDistinct-without}
 

@@ -9,7 +9,8 @@ use Rattle.ax_account.specs.declared.part.Waiting.TheVariants.{Row, Mark}
 use Rattle.ax_account.specs.declared.part.Occupied.{Occupied}
 use Rattle.ax_account.specs.declared.part.Occupied.TheVariants.{Owner, Waits}
 use Rattle.ax_account.specs.Parts.{Part, free, is_free, may_idle, owned, waits}
-use Rattle.ax_account.specs.Queues.{key_cmp, same_key, has_key, AreDistinct}
+use Rattle.ax_keys.specs.Keys.{key_cmp}
+use Rattle.ax_account.specs.Queues.{same_key, has_key, AreDistinct}
 
 -- the keys that are not free, rising, and what is kept of each
 abbrev pub Parts : Type 0

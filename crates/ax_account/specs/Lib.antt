@@ -1,4 +1,3 @@
 pub mod Parts
 pub mod Queues
 pub mod Accounts
-pub mod Totals

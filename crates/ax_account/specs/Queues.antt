@@ -2,13 +2,9 @@
 use Rattle.std.specs.Prelude.{◌≡◌, ℕ, ◌<◌, Bool, not, List, [], ◌∷◌, All, Option, Some, None}
 use Rattle.std.specs.List.{filter, list_any, IsDistinct}
 use Rattle.std.specs.Ordering.{nat_cmp}
-use Rattle.std.specs.declared.cmp.Ordering.{Ordering}
-use Rattle.std.specs.Cmp.Lexicographic.{slice_cmp}
 use Rattle.std.specs.Map.{lookup, values_of}
 use Rattle.std.specs.BTreeMap.{is_at}
-
-abbrev pub key_cmp : List ℕ → List ℕ → Ordering
-key_cmp = slice_cmp nat_cmp
+use Rattle.ax_keys.specs.Keys.{key_cmp}
 
 abbrev pub same_key : List ℕ → List ℕ → Bool
 same_key key other = is_at (key_cmp key) other
