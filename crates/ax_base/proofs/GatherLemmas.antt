@@ -1,6 +1,6 @@
 -- Bytes that are gathered and handed on.
-use Rattle.std.proofs.Common.{◌≡◌, ℕ, ◌+◌, ◌-◌, ◌≤◌, List, [], ◌++◌, length, take, drop, Option, Some, None, unwrap_or, refl, sym, ap, ◌∙◌, append_assoc, arith}
-use Rattle.std.proofs.lemmas.List.{drop-take, drop-append-le, take-append-drop, length-take, take_at, take-append-le}
+use Rattle.std.proofs.Common.{◌≡◌, ℕ, zero, suc, ◌+◌, ◌-◌, ◌≤◌, List, [], ◌∷◌, ◌++◌, length, take, drop, Option, Some, None, unwrap_or, refl, sym, ap, ◌∙◌, append_assoc, subst, min, arith}
+use Rattle.std.proofs.lemmas.List.{drop-take, drop-append-le, take-append-drop, length-take, take_at, take-append-le, append-nil}
 use Rattle.std.proofs.lemmas.Option.{none-some}
 use Rattle.std.proofs.Math.Seq.{take-append-add}
 use Rattle.std.specs.Io.KnownBytes.{Appends, Keeps, append_known}
@@ -70,3 +70,28 @@ Appends-begun (Some then) (Some a) pending bytes p q =
           ∙ ap (λ k. take k (then ++ bytes)) (omega (arith, begins_within then a p))
           ∙ take-append-add then bytes n,
     )
+
+-- the same where the gathering began with these bytes and an empty room
+pub AppendsSome-begun : (then old inner : Option (List ℕ)) (room pending bytes : List ℕ) → old ≡ then → room ≡ [] → Begins then inner → Appends (append_known old room) (append_known inner pending) bytes → AppendsSome old inner bytes
+AppendsSome-begun then old inner room pending bytes same none begun p =
+    let P : Option (List ℕ) → Type 0 = λ o. Begins o inner in
+    Appends-begun old inner pending bytes (subst P (sym same) begun) (from_empty old (append_known inner pending) room bytes none p)
+    where
+    from_empty : (a b : Option (List ℕ)) (room bytes : List ℕ) → room ≡ [] → Appends (append_known a room) b bytes → Appends a b bytes
+    from_empty None b room bytes none p = tt
+    from_empty (Some xs) None room bytes none p = absurd p
+    from_empty (Some xs) (Some ys) room bytes none p = p ∙ ap (λ s. xs ++ s ++ bytes) none ∙ ap (λ s. s ++ bytes) (append-nil xs)
+
+take_least : (m n : ℕ) (xs : List ℕ) → take m (take n xs) ≡ take (min m n) xs
+take_least zero n xs = let e : 0 ≡ min 0 n = omega arith in ap (λ k. take k xs) e
+take_least (suc m) zero xs = let e : 0 ≡ min (suc m) 0 = omega arith in ap (λ k. take k xs) e
+take_least (suc m) (suc n) [] = let e : suc (min m n) ≡ min (suc m) (suc n) = omega arith in ap (λ k. take k []) e
+take_least (suc m) (suc n) (x ∷ xs) =
+    let e : suc (min m n) ≡ min (suc m) (suc n) = omega arith in
+    ap (λ s. x ∷ s) (take_least m n xs) ∙ ap (λ k. take k (x ∷ xs)) e
+
+-- some of a part are some of the whole
+pub AppendsSome-take : (a b : Option (List ℕ)) (n : ℕ) (bytes : List ℕ) → AppendsSome a b (take n bytes) → AppendsSome a b bytes
+AppendsSome-take a b n bytes p =
+    let P : List ℕ → Type 0 = λ s. Appends a b s in
+    (min p.0 n, subst P (take_least p.0 n bytes) p.1)

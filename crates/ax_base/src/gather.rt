@@ -11,14 +11,19 @@ use std::marker::{Brand, Model, PhantomData};
 /// How many bytes are gathered at most.
 pub const ROOM: usize = 65536;
 
-/// What a sink held when gathering for it began: a value for contracts alone, which the caller
-/// picks.
+/// What a sink was when gathering for it began: values for contracts alone, which the caller picks.
 pub trait Begun {
+    /// What it held, where it tells that.
     ghost held: { Option (List ℕ) };
+
+    /// Its `base`.
+    ghost base: { ℕ };
 }
 
 impl Begun for Brand {
     ghost held = { None };
+
+    ghost base = { 0 };
 }
 
 /// Room for 65,536 bytes, which is taken once.
@@ -153,13 +158,15 @@ pub struct Gather<'a, K: Sink, B: Begun> {
     pub room: &'a mut Room,
     of: PhantomData<B>,
     ghost begun: { Begins B.held (K.holds inner.now) },
+    ghost based: { K.base inner.now ≡ B.base },
 }
 
 impl<'a, K: Sink, B: Begun> Gather<'a, K, B> {
-    /// Begins to gather for this sink. Condition, for contracts alone: `held` of `B` is what the
-    /// sink holds now. What the room held is forgotten.
+    /// Begins to gather for this sink. Conditions, for contracts alone: `held` of `B` is what the
+    /// sink holds now, and `base` of `B` its base. What the room held is forgotten.
     pub fn new(room: &'a mut Room, inner: &'a mut K) -> Gather<'a, K, B>
-        requires { K.holds inner.now ≡ B.held }
+        requires held { K.holds inner.now ≡ B.held }
+        requires base { K.base inner.now ≡ B.base }
         ensures same { result.inner.ghost_name ≡ inner.entry.ghost_name }
         ensures now { result.inner.now ≡ inner.old }
         ensures empty { result.room.now ≡ [] }
