@@ -6,3 +6,4 @@ pub mod Shown
 pub mod Reads
 pub mod Drafts
 pub mod Laws
+pub mod PlainEntries

@@ -14,6 +14,7 @@ pub mod laws;
 pub mod line;
 mod numbers;
 pub mod read;
+pub mod runs;
 pub mod write;
 
 pub use event::{Event, EventFault, is_skipped, read_event, read_line};

@@ -2,7 +2,8 @@
 use Rattle.std.specs.Prelude.{ℕ, ℤ, pos, negsuc, List, [], ◌∷◌, Bool, true, false, Option, Some, None, if◌then◌else◌, ◌==◌, ◌&&◌, ◌||◌, nat_le, is_some}
 use lib.Chars.{codes}
 use Rattle.ax_base.specs.Numbers.{number_of}
-pub use Rattle.ax_text.specs.Names.{Word, same_word, keyword_of, is_letter, is_name_byte, is_lettered, is_value_word, is_name}
+pub use Rattle.ax_text.specs.Names.{Word, same_word, is_letter, is_name_byte, is_lettered, is_value_word}
+unfoldable pub use Rattle.ax_text.specs.Names.{keyword_of, is_name}
 use Rattle.ax_text.specs.declared.vocabulary.Op.{Op}
 use Rattle.ax_text.specs.declared.vocabulary.Op.TheVariants as op
 use Rattle.ax_text.specs.declared.vocabulary.Keyword.{Keyword}
