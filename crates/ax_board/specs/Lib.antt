@@ -1,0 +1,6 @@
+pub mod Rule
+pub mod Plays
+pub mod Seats
+pub mod Trail
+pub mod Words
+pub mod Runs

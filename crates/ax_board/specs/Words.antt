@@ -1,0 +1,36 @@
+-- What contracts say of a board and its seats.
+use Rattle.std.specs.Prelude.{ℕ, List, Option}
+use Rattle.atomic_table.specs.Seated.{TableId}
+use Rattle.ax_board.specs.declared.view.Note.{Note}
+use Rattle.ax_board.specs.declared.work.Work.{Ghosts}
+use Rattle.ax_board.specs.declared.board.Board.{Board}
+use Rattle.ax_board.specs.declared.seats.TaskSeat.{TaskSeat}
+use Rattle.ax_board.specs.declared.seats.WorkSeat.{WorkSeat}
+use Rattle.ax_board.specs.Trail.{Trail}
+use Rattle.ax_board.specs.Seats.{notes_of, held_of}
+
+-- the table of a board, by which a seat is known to be of this board
+abbrev pub table : {W J : Type 0} → Board W J → TableId
+table b = b.table.shared.table_id
+
+module _ {W J : Type 0} {g : Ghosts W J} where
+  abbrev pub task_table : TaskSeat W J g → TableId
+  task_table s = s.seat.table_id
+
+  abbrev pub work_table : WorkSeat W J g → TableId
+  work_table s = s.seat.table_id
+
+  -- what the task notes for each cell
+  abbrev pub notes : TaskSeat W J g → List (Note J)
+  notes s = notes_of s.seat.me.0.0
+
+  -- the cell and the job of the work that a worker holds
+  abbrev pub holds : WorkSeat W J g → Option (ℕ × J)
+  holds s = held_of s.seat.me.0.0
+
+  -- the words that the seat found, the last one first, each with its place
+  abbrev pub task_found : TaskSeat W J g → Trail
+  task_found s = s.seat.me.0.1
+
+  abbrev pub work_found : WorkSeat W J g → Trail
+  work_found s = s.seat.me.0.1
