@@ -76,7 +76,7 @@ pub AppendsSome-begun : (then old inner : Option (List ℕ)) (room pending bytes
 AppendsSome-begun then old inner room pending bytes same none begun p =
     let P : Option (List ℕ) → Type 0 = λ o. Begins o inner in
     Appends-begun old inner pending bytes (subst P (sym same) begun) (from_empty old (append_known inner pending) room bytes none p)
-    where
+  where
     from_empty : (a b : Option (List ℕ)) (room bytes : List ℕ) → room ≡ [] → Appends (append_known a room) b bytes → Appends a b bytes
     from_empty None b room bytes none p = tt
     from_empty (Some xs) None room bytes none p = absurd p

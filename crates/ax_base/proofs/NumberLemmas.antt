@@ -1,9 +1,14 @@
 -- The value of digits, capped.
-use Rattle.std.proofs.Common.{◌≡◌, ℕ, ◌+◌, ◌-◌, ◌*◌, ◌<◌, true, length, get_or, drop, min, List, [], ◌∷◌, sym, ap, ◌∙◌, arith}
-use Rattle.std.proofs.lemmas.List.{at_drop_more}
+use Rattle.std.proofs.Common.{◌≡◌, ℕ, ◌+◌, ◌-◌, ◌*◌, ◌/◌, ◌%◌, ◌^◌, ◌<◌, ◌≤◌, suc, Option, Some, None, true, false, cond, length, get_or, drop, min, List, [], ◌∷◌, ◌++◌, refl, sym, ap, ◌∙◌, arith}
+use Rattle.std.proofs.lemmas.List.{at_drop_more, length-append}
+use Rattle.std.proofs.lemmas.List.Folds.{list_all-append}
+use Rattle.std.proofs.lemmas.Fmt.{decimal_by_steps}
+use Rattle.std.proofs.lemmas.Bool.Decides.{nat_tests}
+use Rattle.std.specs.Fmt.{decimal, signed_decimal}
 use Rattle.std.specs.List.{list_all}
-use Rattle.std.specs.Prelude.{◌&&◌}
-use Rattle.ax_base.specs.Numbers.{value_from, is_digit}
+use Rattle.std.specs.Prelude.{◌&&◌, ℤ, pos, negsuc, nat_lt, nat_le, ◌==◌}
+use lib.Signed.{mag}
+use Rattle.ax_base.specs.Numbers.{value_from, is_digit, unsigned_by, positive, negative, number_of}
 
 -- a number may be capped before the digits that follow it
 pub min-value_from-min : (cap m : ℕ) (bs : List ℕ) → min (value_from (min m cap) bs) cap ≡ min (value_from m bs) cap
@@ -22,3 +27,52 @@ value_more cap xs i n r h e =
 
 pub digits_more : (xs : List ℕ) (i : ℕ) → i < length xs → is_digit (get_or xs i 0) ≡ true → list_all is_digit (drop (i + 1) xs) ≡ list_all is_digit (drop i xs)
 digits_more xs i h e = sym (at_drop_more (list_all is_digit) xs i 0 h ∙ ap (λ t. t && list_all is_digit (drop (i + 1) xs)) e)
+
+-- digits, whose value is this number
+pub record Spells (n : ℕ) (ds : List ℕ) : Type 0 where
+  pub some : 0 < length ds
+  pub digits : list_all is_digit ds ≡ true
+  pub value : value_from 0 ds ≡ n
+
+value_from_last : (n c : ℕ) (ds : List ℕ) → value_from n (ds ++ c ∷ []) ≡ 10 * value_from n ds + (c - 48)
+value_from_last n c [] = refl
+value_from_last n c (d ∷ ds) = value_from_last (10 * n + (d - 48)) c ds
+
+last_digit : (n : ℕ) → n < 10 → is_digit (48 + n) ≡ true
+last_digit n h = grind (arith, nat_tests)
+
+spells_one : (n : ℕ) → n < 10 → Spells n ((48 + n) ∷ [])
+spells_one n h = record { some = omega arith; digits = ap (λ t. t && true) (last_digit n h); value = omega arith }
+
+spells_more : (n : ℕ) (ds : List ℕ) → 10 ≤ n → Spells (n / 10) ds → Spells n (ds ++ ((48 + n % 10) ∷ []))
+spells_more n ds h s = record {
+  some = omega (arith, length-append ds ((48 + n % 10) ∷ []), s.some);
+  digits = list_all-append is_digit ds ((48 + n % 10) ∷ []) ∙ ap (λ t. t && (is_digit (48 + n % 10) && true)) s.digits ∙ ap (λ t. t && true) (last_digit (n % 10) (omega arith));
+  value = value_from_last 0 (48 + n % 10) ds ∙ ap (λ v. 10 * v + (48 + n % 10 - 48)) s.value ∙ omega arith;
+}
+
+pub Spells-decimal : (n : ℕ) → n < 2 ^ 64 → Spells n (decimal n)
+Spells-decimal n h = decimal_by_steps Spells spells_one spells_more n h
+
+unsigned-spelled : (f : ℕ → Option ℤ) (n : ℕ) (ds : List ℕ) → Spells n ds → unsigned_by f ds ≡ f n
+unsigned-spelled f n [] s = absurd (omega (arith, s.some))
+unsigned-spelled f n (b ∷ bs) s = ap (λ t. cond t (f (value_from 0 (b ∷ bs))) None) s.digits ∙ ap f s.value
+
+no_minus : (b : ℕ) (bs : List ℕ) → list_all is_digit (b ∷ bs) ≡ true → (b == 45) ≡ false
+no_minus b bs e = grind (arith, nat_tests)
+
+number_of-spelled : (n : ℕ) (ds : List ℕ) → n < 2 ^ 63 → Spells n ds → number_of ds ≡ Some (pos n)
+number_of-spelled n [] small s = absurd (omega (arith, s.some))
+number_of-spelled n (b ∷ bs) small s =
+    let fits : nat_lt n (2 ^ 63) ≡ true = grind (arith, nat_tests) in
+    ap (λ t. cond t (unsigned_by negative bs) (unsigned_by positive (b ∷ bs))) (no_minus b bs s.digits)
+    ∙ unsigned-spelled positive n (b ∷ bs) s
+    ∙ ap (λ t. cond t (Some (pos n)) None) fits
+
+-- the text of a number of 64 bits spells it
+pub number_of-signed_decimal : (n : ℤ) → mag n < 2 ^ 63 → number_of (signed_decimal n) ≡ Some n
+number_of-signed_decimal (pos n) small = number_of-spelled n (decimal n) small (Spells-decimal n (omega arith))
+number_of-signed_decimal (negsuc n) small =
+    let fits : nat_le (suc n) (2 ^ 63) ≡ true = grind (arith, nat_tests) in
+    unsigned-spelled negative (suc n) (decimal (suc n)) (Spells-decimal (suc n) (omega arith))
+    ∙ ap (λ t. cond t (Some (negsuc n)) None) fits

@@ -15,6 +15,7 @@
 
 mod find;
 pub mod gather;
+pub mod laws;
 pub mod lines;
 pub mod lists;
 pub mod memory;

@@ -146,6 +146,24 @@ impl<T: Copy> ListOf<T> {
     }
 }
 
+impl<T: PartialEq> PartialEq for ListOf<T> {
+    ghost use Rattle.std.specs.Cmp.Lexicographic.{pointwise, lists_per};
+
+    ghost eq = { λ a b. pointwise T.eq a b };
+
+    ghost laws = { lists_per T.laws };
+
+    fn eq(&self, other: &ListOf<T>) -> bool {
+        self.items == other.items
+    }
+}
+
+impl<T: Eq> Eq for ListOf<T> {
+    ghost use Rattle.std.specs.Cmp.Lexicographic.{lists_equiv};
+
+    ghost laws = { lists_equiv T.Eq.laws };
+}
+
 impl<T: Duplicate + Drop> Duplicate for ListOf<T> {
     fn copy(&self, alloc: Global) -> Result<ListOf<T>, NoMemory> {
         let mut copy = ListOf::new(alloc);

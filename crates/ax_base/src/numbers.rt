@@ -1,5 +1,5 @@
 //! Signed decimal numbers of 64 bits.
-ghost use Rattle.std.specs.Prelude.{◌≡◌, ◌++◌, if◌then◌else◌, Some, None, ◌<◌, ◌+◌, ◌^◌, min, OnOk, OnErr, length, pos, IsTrue};
+ghost use Rattle.std.specs.Prelude.{◌≡◌, ◌++◌, if◌then◌else◌, Some, None, ◌≤◌, ◌+◌, ◌-◌, ◌*◌, min, OnOk, OnErr};
 ghost use Rattle.std.specs.Fmt.{signed_decimal};
 ghost use Rattle.ax_base.specs.Numbers.{number_of, value_from, are_digits, unsigned_by, positive, negative};
 
@@ -8,22 +8,36 @@ use crate::lists::Bytes;
 use std::alloc::Global;
 
 // One more than the largest number of either sign.
-const CAP: u128 = 9223372036854775809;
+const CAP: u64 = 9223372036854775809;
+
+// The number with one more digit, or the cap where it is greater.
+fn with_digit(n: u64, digit: u8) -> u64
+    requires small { n ≤ CAP }
+    requires low { 48 ≤ digit }
+    requires high { digit ≤ 57 }
+    ensures { result ≡ min (10 * n + (digit - 48)) CAP }
+{
+    if n > 922337203685477580 {
+        CAP
+    } else {
+        10 * n + u64::from(digit - b'0')
+    }
+}
 
 // The digits' value, or the cap where it is greater.
-fn capped_value(digits: &[u8]) -> Option<u128>
+fn capped_value(digits: &[u8]) -> Option<u64>
     ensures { result ≡ (if are_digits digits.now then Some (min (value_from 0 digits.now) CAP) else None) }
 {
     if digits.is_empty() {
         return None;
     }
-    let mut n: u128 = 0;
+    let mut n = 0;
     for b in digits {
         let b = *b;
         if b < b'0' || b > b'9' {
             return None;
         }
-        n = (10 * n + u128::from(b - b'0')).min(CAP);
+        n = with_digit(n, b);
     }
     Some(n)
 }

@@ -1,5 +1,6 @@
 //! A reader as a source, and a writer as a sink.
-ghost use Rattle.std.specs.Prelude.{◌≡◌};
+ghost use Rattle.std.specs.Prelude.{◌≡◌, ◌≤◌, ◌<◌, length, take, drop, IfOk, OnErr};
+ghost use Rattle.std.specs.Io.KnownBytes.{Consumes, Keeps, IsAtEnd};
 
 use crate::outside::{Failed, Sink, SinkFault, Source};
 use std::io::{Read, Write};
@@ -12,6 +13,7 @@ use std::marker::Model;
 pub struct ReadSource<R: Read> {
     inner: R,
     faults: u64,
+    own: [u8; 65536],
 }
 
 impl<R: Read> Model for ReadSource<R> {
@@ -27,7 +29,11 @@ impl<R: Read> ReadSource<R> {
     pub fn new(inner: R) -> ReadSource<R>
         ensures { result ≡ record { bytes = R.remaining inner; faults = 0 } }
     {
-        ReadSource { inner, faults: 0 }
+        ReadSource {
+            inner,
+            faults: 0,
+            own: [0; 65536],
+        }
     }
 }
 
@@ -37,18 +43,33 @@ impl<R: Read> Source for ReadSource<R> {
     ghost faults = { λ s. s.faults };
 
     fn read(&mut self, buf: &mut [u8]) -> Result<usize, Failed> {
-        let mut own = [0u8; 8192];
-        let most = buf.len().min(8192);
-        match self.inner.read(&mut own[..most]) {
-            Ok(n) => {
-                buf[..n].copy_from_slice(&own[..n]);
-                Ok(n)
-            }
-            Err(_) => {
+        match read_through(&mut self.inner, &mut self.own[..], buf) {
+            Ok(n) => Ok(n),
+            Err(fault) => {
                 self.faults = self.faults.saturating_add(1);
-                Err(Failed)
+                Err(fault)
             }
         }
+    }
+}
+
+// Reads by way of bytes of its own, since a reader may write behind what it says that it read.
+fn read_through<R: Read>(inner: &mut R, own: &mut [u8], buf: &mut [u8]) -> Result<usize, Failed>
+    requires room { 0 < length buf.old }
+    requires own { 0 < length own.old }
+    ensures bound { IfOk result (λ n. n ≤ length buf.old) }
+    ensures taken { IfOk result (λ n. Consumes (R.remaining inner.old) (R.remaining inner.new) (take n buf.new)) }
+    ensures rest { IfOk result (λ n. drop n buf.new ≡ drop n buf.old) }
+    ensures end { IfOk result (λ n. n ≡ 0 → IsAtEnd (R.remaining inner.old)) }
+    ensures kept { OnErr result (Keeps (R.remaining inner.old) (R.remaining inner.new)) }
+{
+    let most = buf.len().min(own.len());
+    match inner.read(&mut own[..most]) {
+        Ok(n) => {
+            buf[..n].copy_from_slice(&own[..n]);
+            Ok(n)
+        }
+        Err(_) => Err(Failed),
     }
 }
 

@@ -1,6 +1,4 @@
-use Rattle.std.proofs.Common.{◌≡◌, ◌∙◌, length, take, drop, arith, subst, sym, ap, List, ℕ}
-use Rattle.std.specs.Io.KnownBytes.{Appends}
-use Rattle.ax_base.specs.Gathered.{Moves}
+use Rattle.std.proofs.Common.{◌∙◌}
 use Rattle.ax_base.proofs.GatherLemmas.{Moves-more}
 use Rattle.ax_base.proofs.gather.hand_on.Goals as goal
 

@@ -10,7 +10,7 @@ loop-b-preserved c =
     let i = c.loop-b.b-index in
     let digit : is_digit (get_or xs i 0) ≡ true = grind (arith, nat_tests) in
     record {
-      small = omega arith;
-      value = value_more 9223372036854775809 xs i c.loop-b.n c.min-n.result (omega arith) (omega arith) ∙ c.loop-b.invariant.value;
+      small = omega (arith, c.with_digit-n.ensures);
+      value = value_more 9223372036854775809 xs i c.loop-b.n c.with_digit-n.result (omega arith) c.with_digit-n.ensures ∙ c.loop-b.invariant.value;
       digits = digits_more xs i (omega arith) digit ∙ c.loop-b.invariant.digits;
     }
