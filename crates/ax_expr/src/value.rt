@@ -63,8 +63,12 @@ fn atom_value(scope: &Scope<'_>, atom: &Atom) -> i64
 }
 
 impl Expr {
-    /// The value of the expression. Sums, differences and products wrap at 64 bits, a comparison gives 1 or 0, and a
-    /// division or a remainder by 0 gives 0. No memory is taken; the calls nest as deep as the tree.
+    /// The value of the expression. Sums, differences and products wrap at 64 bits, and a comparison gives 1 or 0.
+    ///
+    /// `/` rounds toward 0, and `%` has the sign of its left side, as in Rust: `-7 / 2` is `-3`, and `-7 % 2` is `-1`. By 0
+    /// both give 0. The least number divided by -1 wraps to itself, and its remainder by -1 is 0.
+    ///
+    /// No memory is taken; the calls nest as deep as the tree.
     #[tactic(auto, using(crate::proofs::ShownLemmas::shown_leaf, crate::proofs::ShownLemmas::shown_join))]
     pub fn value(&self, scope: &Scope<'_>) -> i64
         ensures { result ≡ value (shown_facts scope.now) (shown_names scope.now) (shown_expr self.now) }

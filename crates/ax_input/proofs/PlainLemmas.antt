@@ -218,6 +218,7 @@ near_from n (entry.Out j line ∷ es) h g = (here (bytes_eq j j) (same_key j) (h
   here : (b : Bool) → b ≡ true → AllByRecursion (LineNear j) (if b then line ∷ lines_of j es else lines_of j es) → LineNear j line
   here true e x = x.0
   here false e x = absurd (cc)
+
   there : (k : Key) (b : Bool) → AllByRecursion (LineNear k) (if b then line ∷ lines_of k es else lines_of k es) → AllByRecursion (LineNear k) (lines_of k es)
   there k true x = x.1
   there k false x = x

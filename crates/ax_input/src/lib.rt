@@ -23,4 +23,3 @@ pub use read::read_out_line;
 pub use write::{
     put_end, put_event, put_head, put_out, put_out_line, put_timer, put_value, put_watermark,
 };
-

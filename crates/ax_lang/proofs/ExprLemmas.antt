@@ -334,6 +334,7 @@ token_known t names n w e known more few = cases (same_word w (codes "(")) refl 
   last false p q = sign_case (values_of t) n (sign_of w) (token.Operand (atom_of names w)) (λ s.
       let rest = or_second (same_word w (codes "(") || same_word w (codes ")")) _ (ap (λ (b : Bool). b || same_word w (codes ")")) p ∙ q) e in
       atom_known t names n w (or_second (is_some (sign_of w)) (is_operand w) (ap is_some s) rest) known more few)
+
   cases : (b : Bool) → same_word w (codes "(") ≡ b → token_fits (values_of t) n (if b then token.Open else (if same_word w (codes ")") then token.Close else sign_or (sign_of w) (token.Operand (atom_of names w)))) ≡ true
   cases true p = refl
   cases false p = last (same_word w (codes ")")) p refl

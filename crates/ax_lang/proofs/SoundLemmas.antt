@@ -120,6 +120,7 @@ with_keeps w ws v h = cases (mem w ws) where
     either : (b : Bool) → (b || mem v xs) ≡ true → (mem v xs ≡ true → mem v (xs ++ w ∷ []) ≡ true) → (b || mem v (xs ++ w ∷ [])) ≡ true
     either true e go = refl
     either false e go = go e
+
   cases : (b : Bool) → mem v (if b then ws else (ws ++ w ∷ [])) ≡ true
   cases true = h
   cases false = more ws h

@@ -1,13 +1,13 @@
 //! Programs of the operator language: the reader, with the exact first fault, and what it accepts.
 #![tactic(auto)]
 
-pub mod faults;
+mod faults;
 pub mod laws;
 pub mod program;
 pub mod reader;
-pub mod rows;
+mod rows;
 pub mod step;
-pub mod tables;
+mod tables;
 
 pub use laws::{expression_law, program_is_valid};
 pub use program::Program;

@@ -137,7 +137,12 @@ fn finish(
     }
 }
 
-/// The program of a section's lines, or its first fault.
+/// The program of a section's lines, or its first fault: each line is tested against all lines before it, for one kind of
+/// fault after another, and the least line that has a fault is told with its first kind there. Where no line has one,
+/// what is due at the end is tested: `input` and `on row` must have come, no handler may be open, and the section must have
+/// ended with a line of `%%`; else the fault is of kind 10, at the line of the end.
+///
+/// `lines` are those before the end, in order, without blank lines and comments. At `NoMemory` nothing is kept.
 pub fn read_program(alloc: Global, lines: &[Line], end: SectionEnd) -> Result<Program, ProgFault>
     ensures { ReadsProgram (program_of lines.now end) result }
 {

@@ -12,7 +12,7 @@ ghost use Rattle.ax_lang.specs.Steps.{row_some};
 use crate::step::Stmt;
 use crate::tables::Tables;
 use ax_base::{Bytes, ListOf, NoMemory, read_i64};
-use ax_expr::{Expr, Token, Refusal, read_expr};
+use ax_expr::{Expr, Refusal, Token, read_expr};
 use ax_state::Decl;
 use ax_syntax::shape::first_part;
 use ax_syntax::words::{field_number, keyword_of, same, sign_of};
