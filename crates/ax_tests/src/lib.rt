@@ -30,3 +30,5 @@ mod programs;
 mod texts;
 #[cfg(test)]
 mod timers;
+#[cfg(test)]
+mod words;

@@ -1,0 +1,3 @@
+pub mod ClapReads
+pub mod ClapCommand
+pub mod Asked
