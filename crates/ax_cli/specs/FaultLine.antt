@@ -1,7 +1,8 @@
 -- The line that tells how a run ended.
-use Rattle.std.specs.Prelude.{ℕ, List, [], ◌++◌, Option, ◌⊎◌, codes, decimal}
+use Rattle.std.specs.Prelude.{◌≡◌, ℕ, List, [], ◌++◌, ◌⊎◌, codes, decimal}
 use Rattle.std.specs.Io.KnownBytes.{Appends}
-use Rattle.ax_base.specs.Outside.{Rose, AppendsPart}
+use Rattle.ax_base.specs.Outside.{RoseByOne, Counts, AppendsPart}
+use Rattle.ax_task.specs.Clause.{Holds}
 use Rattle.ax_cli.specs.declared.status.Status.{Status}
 use Rattle.ax_cli.specs.declared.status.Status.TheVariants as status
 
@@ -19,7 +20,10 @@ line_of (status.Input line kind) = numbered_line line (codes "input") kind
 line_of status.Read = codes "ax: read fault\n"
 line_of status.Write = codes "ax: write fault\n"
 
--- a sink took the line, or a proper prefix of it where one of its counts rose
-abbrev pub WritesLine : Option (List ℕ) → Option (List ℕ) → ℕ → ℕ → ℕ → ℕ → List ℕ → Type 0
-WritesLine old new faults faults' short short' line =
-    Appends old new line ⊎ (AppendsPart old new line × (Rose faults faults' ⊎ Rose short short'))
+-- one of a sink's counts rose by one, and the other stayed
+abbrev pub OneRose : Counts → Counts → Type 0
+OneRose old new = (RoseByOne old.faults new.faults × (new.short ≡ old.short)) ⊎ ((new.faults ≡ old.faults) × RoseByOne old.short new.short)
+
+-- a sink took the line and counted nothing, or took a proper prefix of it and counted one fault
+abbrev pub WritesLine : Holds → Counts → Counts → List ℕ → Type 0
+WritesLine err old new line = (Appends err.old err.new line × (new ≡ old)) ⊎ (AppendsPart err.old err.new line × OneRose old new)

@@ -1,12 +1,22 @@
 -- What a whole run does, by its status.
-use Rattle.std.specs.Prelude.{◌≡◌, ℕ, ◌-◌, ◌^◌, ◌<◌, List, Option, Some, None, ◌⊎◌}
+use Rattle.std.specs.Prelude.{◌≡◌, ℕ, ◌-◌, ◌^◌, ◌<◌, List, Bool, true, Option, Some, None, ◌⊎◌}
 use Rattle.std.specs.Io.KnownBytes.{Keeps}
-use Rattle.ax_task.specs.Parse.{Parsed, BadProgram, Runs, Ending, Clean, Fault}
-use Rattle.ax_task.specs.Clause.{RunEnds, Stops, EndCause}
+use Rattle.ax_base.specs.Outside.{Told, Counts}
+use Rattle.ax_task.specs.Parse.{Parsed, BadProgram, Runs, Ending, Clean, Fault, parse}
+use Rattle.ax_task.specs.Clause.{Holds, RunEnds, Stops, RunCounts, AllStay, EndCounts}
 use Rattle.ax_task.specs.declared.end.End.{End}
 use Rattle.ax_task.specs.declared.end.End.TheVariants as end
+use Rattle.ax_cli.specs.FaultLine.{WritesLine, line_of}
 use Rattle.ax_cli.specs.declared.status.Status.{Status}
 use Rattle.ax_cli.specs.declared.status.Status.TheVariants as status
+
+-- how many key groups there are
+abbrev pub groups : ℕ
+groups = 128
+
+-- whether watermarks wait for all that precedes them, and all that follows waits for them
+abbrev pub serial : Bool
+serial = true
 
 -- the code with which the process ends
 abbrev pub code_of : Status → ℕ
@@ -31,28 +41,27 @@ end_of status.Write = Some end.Write
 abbrev pub IsStatus : End → Status → Type 0
 IsStatus e s = end_of s ≡ Some e
 
-abbrev pub ByEnd : Option End → (End → Type 0) → Type 0
-ByEnd None P = Unit {0}
-ByEnd (Some e) P = P e
+-- a fact of the end that a status tells; where the words were refused, another one
+abbrev pub ByEnd : Option End → Type 0 → (End → Type 0) → Type 0
+ByEnd None Refused P = Refused
+ByEnd (Some e) Refused P = P e
 
 -- what a run leaves, where the bytes of the input say this: `left` is what the source still has
-abbrev pub StatusOf : Parsed → List ℕ → Option (List ℕ) → Option (List ℕ) → Status → Type 0
-StatusOf whole left old new s = ByEnd (end_of s) (RunEnds whole left old new)
+abbrev pub StatusOf : Holds → Parsed → List ℕ → Status → Type 0
+StatusOf out whole left s = ByEnd (end_of s) (Unit {0}) (RunEnds groups serial out whole left)
 
 -- what a run leaves that stops for a fault of its source or its sink, or for want of memory: `left` is what the source still has of
 -- these bytes
-abbrev pub StatusStops : List ℕ → List ℕ → Option (List ℕ) → Option (List ℕ) → Status → Type 0
-StatusStops bytes left old new s = ByEnd (end_of s) (Stops bytes left old new)
+abbrev pub StatusStops : Holds → List ℕ → List ℕ → Status → Type 0
+StatusStops out bytes left s = ByEnd (end_of s) (Unit {0}) (Stops groups serial out bytes left)
 
--- a read fault and a write fault have their causes
-abbrev pub StatusCause : ℕ → ℕ → ℕ → ℕ → Status → Type 0
-StatusCause reads reads' writes writes' s = ByEnd (end_of s) (EndCause reads reads' writes writes')
+-- the counts of the source and the sink
+abbrev pub StatusCounts : RunCounts → RunCounts → Status → Type 0
+StatusCounts old new s = ByEnd (end_of s) (AllStay old new) (EndCounts old new)
 
 -- where the words are refused, nothing was read or written
-abbrev pub UsageLeaves : Option (List ℕ) → Option (List ℕ) → Option (List ℕ) → Option (List ℕ) → ℕ → ℕ → ℕ → ℕ → Status → Type 0
-UsageLeaves left left' old new reads reads' writes writes' status.Usage =
-    Keeps left left' × Keeps old new × (reads ≡ reads') × (writes ≡ writes')
-UsageLeaves left left' old new reads reads' writes writes' s = Unit {0}
+abbrev pub UsageLeaves : Option (List ℕ) → Option (List ℕ) → Holds → Status → Type 0
+UsageLeaves left left' out s = ByEnd (end_of s) (Keeps left left' × Keeps out.old out.new) (λ e. Unit {0})
 
 -- no fault was counted, and the count has not come to its end
 abbrev pub NoFault : ℕ → ℕ → Type 0
@@ -70,3 +79,32 @@ status_named (Runs program stream) = status_at stream.ending
 -- the status that the bytes of an input name, or want of memory
 abbrev pub IsNamed : Parsed → Status → Type 0
 IsNamed whole s = (s ≡ status.NoMemory) ⊎ (s ≡ status_named whole)
+
+-- the same where they name a fault of the program section
+abbrev pub IsProgramNamed : Parsed → Status → Type 0
+IsProgramNamed (BadProgram line kind) s = IsNamed (BadProgram line kind) s
+IsProgramNamed (Runs program stream) s = Unit {0}
+
+-- the streams of a run before it and behind it
+pub record Streams : Type 0 where
+  -- what the source has left
+  pub left : Option (List ℕ)
+  pub left_behind : Option (List ℕ)
+  pub out : Holds
+  -- how often the source failed, and the counts of `out`
+  pub counts : RunCounts
+  pub counts_behind : RunCounts
+  pub err : Holds
+  pub err_counts : Counts
+  pub err_counts_behind : Counts
+
+-- what a run leaves, by its status
+pub record Leaves (s : Streams) (t : Status) : Type 0 where
+  pub told : Told s.left s.left_behind (λ a b. StatusOf s.out (parse a) b t)
+  pub stopped : Told s.left s.left_behind (λ a b. StatusStops s.out a b t)
+  pub refused : UsageLeaves s.left s.left_behind s.out t
+  pub counts : StatusCounts s.counts s.counts_behind t
+  pub complete : (t ≡ status.Usage → ⊥) → NoFault s.counts.reads s.counts_behind.reads → NoFault s.counts.writes.faults s.counts_behind.writes.faults
+      → Told s.left s.left_behind (λ a b. IsNamed (parse a) t)
+  pub no_program : (t ≡ status.Usage → ⊥) → NoFault s.counts.reads s.counts_behind.reads → Told s.left s.left_behind (λ a b. IsProgramNamed (parse a) t)
+  pub line : WritesLine s.err s.err_counts s.err_counts_behind (line_of t)

@@ -29,9 +29,7 @@ fn numbered(line: u64, what: &str, kind: u8) -> Text
 
 // Writes one line. No answer of the sink matters.
 fn put<E: Sink>(err: &mut E, line: &str)
-    ensures line { WritesLine (E.holds err.old) (E.holds err.new) (E.faults err.old) (E.faults err.new) (E.short err.old) (E.short err.new) line.now }
-    ensures faults { E.faults err.old ≤ E.faults err.new }
-    ensures short { E.short err.old ≤ E.short err.new }
+    ensures { WritesLine (record { old = E.holds err.old; new = E.holds err.new }) (E.counts err.old) (E.counts err.new) line.now }
 {
     let _ = write_all(err, line.as_bytes());
 }
@@ -40,9 +38,7 @@ fn put<E: Sink>(err: &mut E, line: &str)
 ///
 /// It takes no memory. Where the sink fails or lacks memory, a proper prefix is written.
 pub fn write_fault_line<E: Sink>(err: &mut E, status: &Status)
-    ensures line { WritesLine (E.holds err.old) (E.holds err.new) (E.faults err.old) (E.faults err.new) (E.short err.old) (E.short err.new) (line_of status.now) }
-    ensures faults { E.faults err.old ≤ E.faults err.new }
-    ensures short { E.short err.old ≤ E.short err.new }
+    ensures { WritesLine (record { old = E.holds err.old; new = E.holds err.new }) (E.counts err.old) (E.counts err.new) (line_of status.now) }
 {
     match *status {
         Status::Ok => {}

@@ -1,10 +1,12 @@
 //! The top call: all that the program does, over any source and sinks.
 #![tactic(auto)]
 
-pub mod fault_line;
-pub mod run;
-pub mod status;
+mod fault_line;
+mod program;
+mod run;
+mod status;
 
 pub use fault_line::write_fault_line;
+pub use program::run_program;
 pub use run::run_alone;
 pub use status::Status;

@@ -12,7 +12,7 @@ use Rattle.ax_base.specs.Given.{Ends, ReadsMore}
 use Rattle.ax_base.specs.declared.lines.Line.{Line}
 use Rattle.ax_base.specs.declared.lines.LineFault.TheVariants as fault
 use Rattle.ax_base.proofs.PieceLemmas.{cut_of-append, pieces_of-line, pieces_of-last}
-use Rattle.ax_task.specs.Passes.{IsFed, MayFollow, Passed}
+use Rattle.ax_task.specs.Passes.{IsFed, MayFollow, Feed, Passed}
 
 pub fed-nil : IsFed []
 fed-nil more = refl
@@ -67,9 +67,13 @@ follow_last v w x y h e more (inr n) = inr n
 follow_last v w x y (inl f) e more (inl g) = inl (fed-last v w f g)
 follow_last v w x y (inr m) e more (inl g) = inl (subst IsFed (sym (front_nil w y (sym e ∙ m))) fed-nil)
 
+-- what is to come for a reader that holds these bytes, where its source has those left
+abbrev pub feed : List ℕ → List ℕ → Feed
+feed held left = record { held = held; left = left }
+
 module _ {A : Type 0} where
   -- nothing was passed
-  pub Passed-none : (F : List ℕ → A) (held a rest b : List ℕ) → held ++ a ≡ rest ++ b → Passed F F held a [] rest b
+  pub Passed-none : (F : List ℕ → A) (held a rest b : List ℕ) → held ++ a ≡ rest ++ b → Passed F F (feed held a) [] (feed rest b)
   Passed-none F held a rest b e = record {
     bytes = e;
     ended = inl fed-nil;
@@ -77,7 +81,7 @@ module _ {A : Type 0} where
   }
 
   -- one stretch of bytes behind another
-  pub Passed-trans : (F G H : List ℕ → A) (held a w held' a' w' rest b : List ℕ) → Passed F G held a w held' a' → Passed G H held' a' w' rest b → Passed F H held a (w ++ w') rest b
+  pub Passed-trans : (F G H : List ℕ → A) (held a w held' a' w' rest b : List ℕ) → Passed F G (feed held a) w (feed held' a') → Passed G H (feed held' a') w' (feed rest b) → Passed F H (feed held a) (w ++ w') (feed rest b)
   Passed-trans F G H held a w held' a' w' rest b p q = record {
     bytes = p.bytes ∙ ap (λ s. w ++ s) q.bytes ∙ sym (append_assoc w w' (rest ++ b));
     ended = follow_both w w' (held' ++ a') (rest ++ b) p.ended q.ended q.bytes;
@@ -86,14 +90,14 @@ module _ {A : Type 0} where
   }
 
   -- the same bytes, by another meaning of what follows
-  pub Passed-as : (F G H : List ℕ → A) (held a w rest b : List ℕ) → Passed F G held a w rest b → ((more : List ℕ) → G more ≡ H more) → Passed F H held a w rest b
+  pub Passed-as : (F G H : List ℕ → A) (held a w rest b : List ℕ) → Passed F G (feed held a) w (feed rest b) → ((more : List ℕ) → G more ≡ H more) → Passed F H (feed held a) w (feed rest b)
   Passed-as F G H held a w rest b p h = record {
     bytes = p.bytes;
     ended = p.ended;
     same = λ more m. p.same more m ∙ h more;
   }
 
-pub Passed-map : {A B : Type 0} (f : A → B) (F G : List ℕ → A) (held a w rest b : List ℕ) → Passed F G held a w rest b → Passed (λ x. f (F x)) (λ x. f (G x)) held a w rest b
+pub Passed-map : {A B : Type 0} (f : A → B) (F G : List ℕ → A) (held a w rest b : List ℕ) → Passed F G (feed held a) w (feed rest b) → Passed (λ x. f (F x)) (λ x. f (G x)) (feed held a) w (feed rest b)
 Passed-map f F G held a w rest b p = record {
   bytes = p.bytes;
   ended = p.ended;
@@ -102,7 +106,7 @@ Passed-map f F G held a w rest b p = record {
 
 -- one line of these bytes
 line_passed : (old new : Reader) (text a b more : List ℕ) → a ≡ more ++ b → no_feed text ≡ true → length text ≤ 65536 → Ends (b ≡ []) old (old.held ++ more) text new
-    → (w : List ℕ) × Passed (pieces_of old.limit) (λ x. Whole text ∷ pieces_of new.limit x) old.held a w new.held b
+    → (w : List ℕ) × Passed (pieces_of old.limit) (λ x. Whole text ∷ pieces_of new.limit x) (feed old.held a) w (feed new.held b)
 line_passed old new text a b more came none short (inl e) =
     let bytes : old.held ++ a ≡ (text ++ 10 ∷ []) ++ (new.held ++ b) =
     ap (λ s. old.held ++ s) came ∙ sym (append_assoc old.held more b) ∙ ap (λ s. s ++ b) e.0
@@ -129,21 +133,21 @@ line_passed old new text a b more came none short (inr e) =
 
 -- what a call of the reader passed, where its source tells the bytes
 pub told_line : (l l' : Option (List ℕ)) (old new : Reader) (line : Line) → ReadsMore l l' old new (Ok (Some line))
-    → Told l l' (λ a b. (w : List ℕ) × Passed (pieces_of old.limit) (λ x. Whole line.text ∷ pieces_of new.limit x) old.held a w new.held b)
+    → Told l l' (λ a b. (w : List ℕ) × Passed (pieces_of old.limit) (λ x. Whole line.text ∷ pieces_of new.limit x) (feed old.held a) w (feed new.held b))
 told_line None l' old new line r = tt
 told_line (Some a) None old new line r = absurd r.1
 told_line (Some a) (Some b) old new line r = line_passed old new line.text a b r.0 r.1 r.2.0 r.2.1 r.2.2
 
 -- at a read fault all that was taken is held
 pub told_read : {A : Type 0} (F : List ℕ → A) (l l' : Option (List ℕ)) (old new : Reader) → ReadsMore l l' old new (Err fault.Read)
-    → Told l l' (λ a b. Passed F F old.held a [] new.held b)
+    → Told l l' (λ a b. Passed F F (feed old.held a) [] (feed new.held b))
 told_read F None l' old new r = tt
 told_read F (Some a) None old new r = absurd r.1
 told_read F (Some a) (Some b) old new r = Passed-none F old.held a new.held b (ap (λ s. old.held ++ s) r.1 ∙ sym (append_assoc old.held r.0 b) ∙ ap (λ s. s ++ b) (sym r.2))
 
 -- whatever came, nothing of it was passed
 pub told_some : {A : Type 0} (F : List ℕ → A) (l l' : Option (List ℕ)) (held : List ℕ) → (more : List ℕ) → Consumes l l' more
-    → Told l l' (λ a b. (rest : List ℕ) × Passed F F held a [] rest b)
+    → Told l l' (λ a b. (rest : List ℕ) × Passed F F (feed held a) [] (feed rest b))
 told_some F None l' held more r = tt
 told_some F (Some a) None held more r = absurd r
 told_some F (Some a) (Some b) held more r = (held ++ more, Passed-none F held a (held ++ more) b (ap (λ s. held ++ s) r ∙ sym (append_assoc held more b)))

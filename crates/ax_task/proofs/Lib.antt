@@ -1,4 +1,5 @@
 pub mod Feeds
+pub mod Gathering
 pub mod Passing
 pub mod Progress
 pub mod Sections

@@ -15,34 +15,33 @@ use Rattle.ax_input.specs.Shown.{shown_event}
 use Rattle.ax_input.specs.declared.event.Event.{Event as CodeEvent}
 use Rattle.ax_task.specs.Parse.{Stream, with_event, event_or_fault, in_order, last_after, stream_of}
 use Rattle.ax_task.specs.Sections.{Section, Gathered, section_of, is_section_end, most_kept}
-use Rattle.ax_task.specs.Reads.{ReadsLine, Keeps}
-use Rattle.ax_task.specs.declared.section.Kept.{Kept}
-use Rattle.ax_task.specs.Passes.{Passed, events_at, section_at, NextPasses, SectionPasses}
+use Rattle.ax_task.specs.Reads.{line_fault}
+use Rattle.ax_task.specs.Passes.{Feed, Passed, events_at, section_at, SomePassed, NextPasses, SectionPasses}
 use Rattle.ax_task.specs.declared.section.Gathered.{Gathered as CodeGathered}
-use Rattle.ax_task.specs.declared.end.End.{End}
-use Rattle.ax_task.specs.declared.end.End.TheVariants as end
-use Rattle.ax_task.proofs.Feeds.{Passed-none, Passed-trans, Passed-as, Passed-map, told_line, told_read, told_some}
+use Rattle.ax_task.specs.declared.read_fault.ReadFault.{ReadFault}
+use Rattle.ax_task.specs.declared.read_fault.ReadFault.TheVariants as read
+use Rattle.ax_task.proofs.Feeds.{feed, Passed-none, Passed-trans, Passed-as, Passed-map, told_line, told_read, told_some}
 use Rattle.ax_task.proofs.Sections.{with_front, with_front-nil, section_end, section_skip, section_keep}
 
 -- a stretch was passed
-abbrev pub Goes : {A : Type 0} → (F G : List ℕ → A) → List ℕ → List ℕ → List ℕ → List ℕ → Type 0
-Goes F G held a held' b = (w : List ℕ) × Passed F G held a w held' b
+abbrev pub Goes : {A : Type 0} → (F G : List ℕ → A) → Feed → Feed → Type 0
+Goes F G old new = (w : List ℕ) × Passed F G old w new
 
 -- at first nothing was passed
-pub goes_none : {A : Type 0} (F : List ℕ → A) (l : Option (List ℕ)) (held : List ℕ) → Told l l (λ a b. Goes F F held a held b)
+pub goes_none : {A : Type 0} (F : List ℕ → A) (l : Option (List ℕ)) (held : List ℕ) → Told l l (λ a b. Goes F F (feed held a) (feed held b))
 goes_none F None held = tt
 goes_none F (Some a) held = ([], Passed-none F held a held a refl)
 
 -- one stretch behind another
 pub goes_on : {A : Type 0} (F G H : List ℕ → A) (l0 l1 l2 : Option (List ℕ)) (h0 h1 h2 : List ℕ)
-    → Told l0 l1 (λ a b. Goes F G h0 a h1 b) → Told l1 l2 (λ a b. Goes G H h1 a h2 b) → Told l0 l2 (λ a b. Goes F H h0 a h2 b)
+    → Told l0 l1 (λ a b. Goes F G (feed h0 a) (feed h1 b)) → Told l1 l2 (λ a b. Goes G H (feed h1 a) (feed h2 b)) → Told l0 l2 (λ a b. Goes F H (feed h0 a) (feed h2 b))
 goes_on F G H l0 l1 l2 h0 h1 h2 x y =
     Told-trans l0 l1 l2 x y (λ a b c p q. (p.0 ++ q.0, Passed-trans F G H h0 a p.0 h1 b q.0 h2 c p.1 q.1))
 
 -- a line was passed, by what the lines mean
 pub line_goes : {A : Type 0} (f : List Piece → A) (H : List ℕ → A) (l l' : Option (List ℕ)) (old new : Reader) (line : Line)
     → ReadsMore l l' old new (Ok (Some line)) → ((x : List ℕ) → f (Whole line.text ∷ pieces_of new.limit x) ≡ H x)
-    → Told l l' (λ a b. Goes (λ x. f (pieces_of old.limit x)) H old.held a new.held b)
+    → Told l l' (λ a b. Goes (λ x. f (pieces_of old.limit x)) H (feed old.held a) (feed new.held b))
 line_goes f H l l' old new line r h =
     Told-map l l' (told_line l l' old new line r) (λ a b p. (
       p.0,
@@ -66,7 +65,7 @@ module _ (fields : ℕ) (last : ℤ) (n : ℕ) (text : List ℕ) (rest : List Pi
 
 -- a skipped line
 pub next_skips : (fields : ℕ) (last : ℤ) (l l' : Option (List ℕ)) (old new : Reader) (line : Line) → ReadsMore l l' old new (Ok (Some line)) → is_skipped line.text ≡ true → new.number ≡ old.number + 1
-    → Told l l' (λ a b. Goes (events_at fields last old) (events_at fields last new) old.held a new.held b)
+    → Told l l' (λ a b. Goes (events_at fields last old) (events_at fields last new) (feed old.held a) (feed new.held b))
 next_skips fields last l l' old new line r e n =
     line_goes (stream_of fields last (old.number + 1)) (events_at fields last new) l l' old new line r
     (λ x. skipped fields last (old.number + 1) line.text (pieces_of new.limit x) e ∙ ap (λ k. stream_of fields last (k + 1) (pieces_of new.limit x)) (sym n))
@@ -74,7 +73,7 @@ next_skips fields last l l' old new line r e n =
 -- a line with an event
 next_takes : (fields fields' : ℕ) (last last' : ℤ) (l l' : Option (List ℕ)) (old new : Reader) (line : Line) (e : CodeEvent) → ReadsMore l l' old new (Ok (Some line)) → is_skipped line.text ≡ false
     → new.number ≡ old.number + 1 → in_order last (event_of fields line.text) ≡ Good (shown_event e) → fields' ≡ fields → last' ≡ last_after (shown_event e) last
-    → Told l l' (λ a b. Goes (events_at fields last old) (λ x. with_event (shown_event e) (events_at fields' last' new x)) old.held a new.held b)
+    → Told l l' (λ a b. Goes (events_at fields last old) (λ x. with_event (shown_event e) (events_at fields' last' new x)) (feed old.held a) (feed new.held b))
 next_takes fields fields' last last' l l' old new line e r s n good same now =
     line_goes (stream_of fields last (old.number + 1)) (λ x. with_event (shown_event e) (events_at fields' last' new x)) l l' old new line r
     (λ x. taken fields last (old.number + 1) line.text (pieces_of new.limit x) (Good (shown_event e)) s good
@@ -84,43 +83,38 @@ next_takes fields fields' last last' l l' old new line e r s n good same now =
 
 -- the next event was read
 pub next_event_passes : (fields fields' : ℕ) (last last' : ℤ) (F : List ℕ → Stream) (held0 : List ℕ) (l0 l l' : Option (List ℕ)) (old new : Reader) (line : Line) (e : CodeEvent)
-    → Told l0 l (λ a b. Goes F (events_at fields last old) held0 a old.held b)
+    → Told l0 l (λ a b. Goes F (events_at fields last old) (feed held0 a) (feed old.held b))
     → ReadsMore l l' old new (Ok (Some line)) → is_skipped line.text ≡ false → new.number ≡ old.number + 1 → in_order last (event_of fields line.text) ≡ Good (shown_event e)
     → fields' ≡ fields → last' ≡ last_after (shown_event e) last
-    → Told l0 l' (λ a b. NextPasses F (events_at fields' last' new) held0 new.held a b (Ok (Some e)))
+    → Told l0 l' (λ a b. NextPasses F (events_at fields' last' new) (feed held0 a) (feed new.held b) (Ok (Some e)))
 next_event_passes fields fields' last last' F held0 l0 l l' old new line e x r s n good same now =
     goes_on F (events_at fields last old) (λ y. with_event (shown_event e) (events_at fields' last' new y)) l0 l l' held0 old.held new.held x
     (next_takes fields fields' last last' l l' old new line e r s n good same now)
 
-module _ (F G H : List ℕ → Stream) (held0 held held' : List ℕ) (l0 l l' : Option (List ℕ)) where
+module _ (F G : List ℕ → Stream) (held0 held : List ℕ) (l0 l l' : Option (List ℕ)) where
   -- bytes came of which nothing was passed
-  some_passes : (more : List ℕ) → Told l0 l (λ a b. Goes F G held0 a held b) → Consumes l l' more
-      → Told l0 l' (λ a b. NextPasses F H held0 held' a b (Err end.NoMemory))
+  pub some_passes : (more : List ℕ) → Told l0 l (λ a b. Goes F G (feed held0 a) (feed held b)) → Consumes l l' more
+      → Told l0 l' (λ a b. SomePassed F (feed held0 a) b)
   some_passes more x came =
       Told-trans l0 l l' x (told_some G l l' held more came) (λ a b c p q.
       (G, p.0 ++ [], q.0, Passed-trans F G G held0 a p.0 held b [] q.0 c p.1 q.1))
 
   -- a line is no event, or memory was short for it
-  pub next_err_passes : (old new : Reader) (line : Line) (e : End) (read : EventRead) (number : ℕ) → Told l0 l (λ a b. Goes F G held0 a held b)
-      → ReadsMore l l' old new (Ok (Some line)) → ReadsLine read number (Err e)
-      → Told l0 l' (λ a b. NextPasses F H held0 held' a b (Err e))
-  next_err_passes old new line (end.Input n kind) read number x r h = Told-trans l0 l l' x (told_some G l l' held r.0 r.1) (λ a b c p q. tt)
-  next_err_passes old new line end.NoMemory read number x r h = some_passes r.0 x r.1
-  next_err_passes old new line end.Ok read number x r h = absurd h
-  next_err_passes old new line (end.Program n kind) read number x r h = absurd h
-  next_err_passes old new line end.Read read number x r h = absurd h
-  next_err_passes old new line end.Write read number x r h = absurd h
-
-  -- memory was short while a line was read
-  pub next_lacks : (old new : Reader) → Told l0 l (λ a b. Goes F G held0 a held b) → ReadsMore l l' old new (Err fault.NoMemory)
-      → Told l0 l' (λ a b. NextPasses F H held0 held' a b (Err end.NoMemory))
-  next_lacks old new x r = some_passes r.0 x r.1
+  pub next_err_passes : (H : List ℕ → Stream) (held' more : List ℕ) (number : ℕ) (kind : Option ℕ) (e : ReadFault) → e ≡ line_fault number kind
+      → Told l0 l (λ a b. Goes F G (feed held0 a) (feed held b)) → Consumes l l' more
+      → Told l0 l' (λ a b. NextPasses F H (feed held0 a) (feed held' b) (Err e))
+  next_err_passes H held' more number kind e is x came =
+      let P : ReadFault → Type 0 = λ f. Told l0 l' (λ a b. NextPasses F H (feed held0 a) (feed held' b) (Err f)) in
+      subst P (sym is) (by_kind kind) where
+        by_kind : (k : Option ℕ) → Told l0 l' (λ a b. NextPasses F H (feed held0 a) (feed held' b) (Err (line_fault number k)))
+        by_kind None = some_passes more x came
+        by_kind (Some k) = some_passes more x came
 
 -- the source failed
 pub next_fails : (fields : ℕ) (last : ℤ) (F : List ℕ → Stream) (held0 : List ℕ) (l0 l l' : Option (List ℕ)) (old new : Reader)
-    → Told l0 l (λ a b. Goes F (events_at fields last old) held0 a old.held b)
+    → Told l0 l (λ a b. Goes F (events_at fields last old) (feed held0 a) (feed old.held b))
     → ReadsMore l l' old new (Err fault.Read) → new.number ≡ old.number → new.limit ≡ old.limit → no_feed new.held ≡ true
-    → Told l0 l' (λ a b. NextPasses F (events_at fields last new) held0 new.held a b (Err end.Read))
+    → Told l0 l' (λ a b. NextPasses F (events_at fields last new) (feed held0 a) (feed new.held b) (Err read.Read))
 next_fails fields last F held0 l0 l l' old new x r n k waits =
     Told-trans l0 l l' x (told_read (events_at fields last old) l l' old new r) (λ a b c p q. (
       p.0 ++ [],
@@ -132,7 +126,7 @@ next_fails fields last F held0 l0 l l' old new x r n k waits =
 
 -- so far, of the section
 abbrev pub SectionGoes : List Line → ℕ → Reader → Reader → List ℕ → List ℕ → Type 0
-SectionGoes lines kept first now a b = Goes (section_at 0 first) (λ x. with_front lines (section_at kept now x)) first.held a now.held b
+SectionGoes lines kept first now a b = Goes (section_at 0 first) (λ x. with_front lines (section_at kept now x)) (feed first.held a) (feed now.held b)
 
 pub section_starts : (l : Option (List ℕ)) (first : Reader) → Told l l (λ a b. SectionGoes [] 0 first first a b)
 section_starts None first = tt
@@ -145,7 +139,7 @@ section_starts (Some a) first = (
 section_line : (H : List ℕ → Section) (l0 l l' : Option (List ℕ)) (lines : List Line) (kept : ℕ) (first old new : Reader) (line : Line)
     → Told l0 l (λ a b. SectionGoes lines kept first old a b) → ReadsMore l l' old new (Ok (Some line))
     → ((x : List ℕ) → with_front lines (section_of (old.number + 1) kept (Whole line.text ∷ pieces_of new.limit x)) ≡ H x)
-    → Told l0 l' (λ a b. Goes (section_at 0 first) H first.held a new.held b)
+    → Told l0 l' (λ a b. Goes (section_at 0 first) H (feed first.held a) (feed new.held b))
 section_line H l0 l l' lines kept first old new line x r h =
     goes_on (section_at 0 first) (λ y. with_front lines (section_at kept old y)) H l0 l l' first.held old.held new.held x
     (line_goes (λ ps. with_front lines (section_of (old.number + 1) kept ps)) H l l' old new line r h)
@@ -212,7 +206,7 @@ section_ends l0 l l' lines kept first old new g x r e =
 -- the source failed before the section ended
 pub section_fails : (l0 l l' : Option (List ℕ)) (lines : List Line) (kept : ℕ) (first old new : Reader)
     → Told l0 l (λ a b. SectionGoes lines kept first old a b) → ReadsMore l l' old new (Err fault.Read) → no_feed new.held ≡ true
-    → Told l0 l' (λ a b. SectionPasses first new a b (Err end.Read))
+    → Told l0 l' (λ a b. SectionPasses first new a b (Err read.Read))
 section_fails l0 l l' lines kept first old new x r waits =
     let G : List ℕ → Section = λ y. with_front lines (section_at kept old y) in
     Told-trans l0 l l' x (told_read G l l' old new r) (λ a b c p q.
@@ -221,20 +215,8 @@ section_fails l0 l l' lines kept first old new x r waits =
 -- some bytes were taken
 pub section_lacks : (l0 l l' : Option (List ℕ)) (lines : List Line) (kept : ℕ) (first old new : Reader) (more : List ℕ)
     → Told l0 l (λ a b. SectionGoes lines kept first old a b) → Consumes l l' more
-    → Told l0 l' (λ a b. SectionPasses first new a b (Err end.NoMemory))
+    → Told l0 l' (λ a b. SectionPasses first new a b (Err read.NoMemory))
 section_lacks l0 l l' lines kept first old new more x came =
     let G : List ℕ → Section = λ y. with_front lines (section_at kept old y) in
     Told-trans l0 l l' x (told_some G l l' old.held more came) (λ a b c p q.
     (p.0 ++ q.0, p.1.bytes ∙ ap (λ s. p.0 ++ s) q.1.bytes ∙ sym (append_assoc p.0 q.0 c)))
-
--- a line that is not kept
-pub section_err : (l0 l l' : Option (List ℕ)) (lines : List Line) (kept : ℕ) (first old new : Reader) (more : List ℕ) (k k' : Kept) (line : Line) (e : End)
-    → Told l0 l (λ a b. SectionGoes lines kept first old a b) → Consumes l l' more → Keeps k line k' (Err e)
-    → Told l0 l' (λ a b. SectionPasses first new a b (Err e))
-section_err l0 l l' lines kept first old new more k k' line (end.Program n kind) x came h =
-    Told-trans l0 l l' x (told_some (λ y. with_front lines (section_at kept old y)) l l' old.held more came) (λ a b c p q. tt)
-section_err l0 l l' lines kept first old new more k k' line end.NoMemory x came h = section_lacks l0 l l' lines kept first old new more x came
-section_err l0 l l' lines kept first old new more k k' line end.Ok x came h = absurd h
-section_err l0 l l' lines kept first old new more k k' line (end.Input n kind) x came h = absurd h
-section_err l0 l l' lines kept first old new more k k' line end.Read x came h = absurd h
-section_err l0 l l' lines kept first old new more k k' line end.Write x came h = absurd h

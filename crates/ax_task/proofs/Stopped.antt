@@ -7,66 +7,65 @@ use Rattle.ax_base.specs.Pieces.{Piece, pieces_of, whole_lines}
 use Rattle.ax_base.specs.Reader.{Reader}
 use Rattle.ax_base.specs.declared.lines.Line.{Line}
 use Rattle.ax_base.proofs.OutsideLemmas.{Appends-none, Told-trans, Told-map}
+use Rattle.ax_plain.proofs.RunLemmas.{AppendsSome-none}
 use Rattle.ax_text.specs.Programs.{Program}
-use Rattle.ax_machine.specs.Entries.{Entry, text_of}
 use Rattle.ax_machine.specs.Events.{Event}
-use Rattle.ax_machine.specs.Sync.{Plain, plain_steps, plain_start, sync, silent}
-use Rattle.ax_machine.specs.Lawful.{LawfulSoFar, LawfulSoFarFor}
-use Rattle.ax_machine.proofs.LawfulLemmas.{lawful_itself}
+use Rattle.ax_machine.specs.Sync.{sync}
 use Rattle.ax_machine.proofs.FrontLemmas.{lawful_so_far_front}
-use Rattle.ax_machine.proofs.StepLemmas.{steps_behind, steps_append}
+use Rattle.ax_machine.proofs.StepLemmas.{lawful_for_more}
 use Rattle.ax_lang.specs.declared.program.Program.{Program as CodeProgram}
 use Rattle.ax_lang.specs.declared.reader.SectionEnd.{SectionEnd}
 use Rattle.ax_lang.specs.Programs.{Reading, Faulty, Accepted, or_fault, fault_in, shape_in, tables_of, rows_of, is_whole, program_in, ended, read_from, program_of, IsProgram}
 use Rattle.ax_lang.specs.Shown.{shown_program}
 use Rattle.ax_task.specs.Sections as section
-use Rattle.ax_task.specs.Sections.{Section, Gathered, section_of}
-use Rattle.ax_task.specs.Parse.{Stream, Clean, ends, Parsed, BadProgram, Runs, of_reading, of_section, behind, first_last, most_bytes, parse}
-use Rattle.ax_plain.specs.Handler.{AppendsSome}
-use Rattle.ax_plain.specs.Plain.{groups}
-use Rattle.ax_task.specs.Reads.{ReadCause}
-use Rattle.ax_task.specs.Passes.{MayFollow, Passed, events_at, section_at, SectionPasses, IsUnfinished, in_front, Taken, EventsStop}
-use Rattle.ax_task.specs.Clause.{OfTaken, WritesLawful, WroteAll, WrotePart, Stops}
+use Rattle.ax_task.specs.Sections.{Section, Gathered, section_of, IsUnfinished}
+use Rattle.ax_task.specs.Parse.{Stream, Clean, ends, Parsed, BadProgram, Runs, of_reading, of_section, behind, first_last, most_bytes, section_in, parse}
+use Rattle.ax_task.specs.Reads.{end_in_section}
+use Rattle.ax_task.specs.Passes.{MayFollow, Passed, events_at, section_at, feed_of, SectionPasses, in_front, Taken, Took, Wrote}
+use Rattle.ax_task.specs.Clause.{Holds, WritesLawful, WritesPart, OfTaken, AtRead, AtWrite, AtNoMemory, Stops}
 use Rattle.ax_task.specs.declared.section.Gathered.{Gathered as CodeGathered}
 use Rattle.ax_task.specs.declared.end.End.{End}
 use Rattle.ax_task.specs.declared.end.End.TheVariants as end
-use Rattle.ax_task.proofs.Feeds.{front_nil, back_nil, none_whole, Passed-trans, Passed-as, Passed-map}
-use Rattle.ax_plain.proofs.RunLemmas.{AppendsSome-none}
+use Rattle.ax_task.specs.declared.read_fault.ReadFault.{ReadFault}
+use Rattle.ax_task.specs.declared.read_fault.ReadFault.TheVariants as read
+use Rattle.ax_task.proofs.Feeds.{feed, front_nil, back_nil, none_whole, Passed-trans, Passed-as, Passed-map}
+use Rattle.ax_task.proofs.Progress.{holds}
 use Rattle.ax_task.proofs.Whole.{parsed}
 
 -- what the whole lines mean that were taken
-of_taken : (G : List ℕ → Parsed) (a w rest b : List ℕ) (P : Parsed → Type 0) → Passed parse G [] a w rest b
-    → ((v : List ℕ) → (no_feed rest ≡ true → v ≡ []) → P (G v))
+of_taken : {A : Type 0} (F G : List ℕ → A) (a w rest b : List ℕ) (P : List ℕ → Type 0) → Passed F G (feed [] a) w (feed rest b)
+    → ((lines v : List ℕ) → F lines ≡ G v → (no_feed rest ≡ true → v ≡ []) → P lines)
     → OfTaken a b P
-of_taken G a w rest b P p h = by_end p.ended where
+of_taken F G a w rest b P p h = by_end p.ended where
   by_end : MayFollow w (rest ++ b) → OfTaken a b P
   by_end (inl f) = (
     w ++ rest,
     w ++ whole_lines rest,
     p.bytes ∙ sym (append_assoc w rest b),
     inl (sym (f rest)),
-    subst P (sym (p.same (whole_lines rest) (inl f))) (h (whole_lines rest) (none_whole rest)),
+    h (w ++ whole_lines rest) (whole_lines rest) (p.same (whole_lines rest) (inl f)) (none_whole rest),
   )
   by_end (inr n) = (
     w ++ rest,
     w ++ rest,
     p.bytes ∙ sym (append_assoc w rest b),
     inr (refl, back_nil rest b n),
-    subst P (sym (p.same rest (inr (front_nil rest b n)))) (h rest (λ e. front_nil rest b n)),
+    h (w ++ rest) rest (p.same rest (inr (front_nil rest b n))) (λ e. front_nil rest b n),
   )
 
--- where nothing was written, it is a part of any text
-nothing_written : (h : Option (List ℕ)) (s : Parsed) → WrotePart h h s
-nothing_written h (BadProgram line kind) = Appends-none h
-nothing_written h (Runs p s) = ([], lawful_so_far_front true [] (sync groups p s.events).entries, AppendsSome-none h [])
+module _ (m : ℕ) (serial : Bool) where
+  -- where nothing was written, it is a part of any text
+  nothing_written : (h : Option (List ℕ)) (s : Parsed) → AtNoMemory m serial (holds h h) s
+  nothing_written h (BadProgram line kind) = Appends-none h
+  nothing_written h (Runs p s) = ([], lawful_so_far_front serial [] (sync m p s.events).entries, AppendsSome-none h [])
 
-stop_taken : (a b taken : List ℕ) (h : Option (List ℕ)) → a ≡ taken ++ b → OfTaken a b (WrotePart h h)
-stop_taken a b taken h e = (taken, whole_lines taken, e, inl refl, nothing_written h (parse (whole_lines taken)))
+  pub stop_taken : (a b taken : List ℕ) (h : Option (List ℕ)) → a ≡ taken ++ b → OfTaken a b (λ lines. AtNoMemory m serial (holds h h) (parse lines))
+  stop_taken a b taken h e = (taken, whole_lines taken, e, inl refl, nothing_written h (parse (whole_lines taken)))
 
--- before anything was read
-pub stop_start : (l h : Option (List ℕ)) → Told l l (λ a b. Stops a b h h end.NoMemory)
-stop_start None h = tt
-stop_start (Some a) h = stop_taken a a [] h refl
+  -- before anything was read
+  pub stop_start : (l h : Option (List ℕ)) → Told l l (λ a b. Stops m serial (holds h h) a b end.NoMemory)
+  stop_start None h = tt
+  stop_start (Some a) h = stop_taken a a [] h refl
 
 -- a section that did not end is no program
 abbrev IsFaulty : Reading → Type 0
@@ -90,41 +89,37 @@ unfinished : (lines : List Line) (e : SectionEnd) → e.found ≡ false → IsFa
 unfolding program_of
 unfinished lines e f = unfinished_from [] lines e f
 
-faulty_wrote : (h : Option (List ℕ)) (r : Reading) (n : ℕ) (ps : List Piece) → IsFaulty r → WroteAll h h (of_reading r n ps)
-faulty_wrote h (Faulty line kind) n ps f = Appends-none h
-faulty_wrote h (Accepted p) n ps f = absurd f
-
-section_wrote : (h : Option (List ℕ)) (s : Section) → IsUnfinished s → WroteAll h h (of_section s)
-section_wrote h (section.Faulty line kind) f = absurd f
-section_wrote h (section.Gathered lines line found rest) f =
-    faulty_wrote h (program_of lines (record { line = line; found = found })) (behind line found) rest (unfinished lines (record { line = line; found = found }) f)
-
 abbrev fresh : Reader
 fresh = record { held = []; limit = most_bytes; number = 0; failed = false }
 
--- the reader of the section stopped
-section_stop : (r : Reader) (a b : List ℕ) (h : Option (List ℕ)) (reads reads' : ℕ) (e : End) → SectionPasses fresh r a b (Err e) → ReadCause {T = CodeGathered} reads reads' (Err e) → Stops a b h h e
-section_stop r a b h reads reads' end.Read s cause =
-    of_taken (λ x. of_section (s.0 x)) a s.1 r.held b (WroteAll h h) (Passed-map of_section (section_at 0 fresh) s.0 [] a s.1 r.held b s.2)
-    (λ v n. let P : List ℕ → Type 0 = λ u. WroteAll h h (of_section (s.0 u)) in subst P (sym (n s.4)) (section_wrote h (s.0 []) s.3))
-section_stop r a b h reads reads' end.NoMemory s cause = stop_taken a b s.0 h s.1
-section_stop r a b h reads reads' end.Ok s cause = absurd cause
-section_stop r a b h reads reads' end.Write s cause = absurd cause
-section_stop r a b h reads reads' (end.Input line kind) s cause = tt
-section_stop r a b h reads reads' (end.Program line kind) s cause = tt
+module _ (m : ℕ) (serial : Bool) (h : Option (List ℕ)) where
+  faulty_wrote : (s : Section) (r : Reading) (n : ℕ) (ps : List Piece) → IsFaulty r → IsUnfinished s → AtRead m serial (holds h h) s (of_reading r n ps)
+  faulty_wrote s (Faulty line kind) n ps f u = (u, Appends-none h)
+  faulty_wrote s (Accepted p) n ps f u = absurd f
 
-pub stop_section : (l0 l1 h : Option (List ℕ)) (r r' : Reader) (reads reads' : ℕ) (e : End) → r ≡ fresh
-    → Told l0 l1 (λ a b. SectionPasses r r' a b (Err e)) → ReadCause {T = CodeGathered} reads reads' (Err e)
-    → Told l0 l1 (λ a b. Stops a b h h e)
-stop_section l0 l1 h r r' reads reads' e is x cause =
-    Told-map l0 l1 x (λ a b s. let P : Reader → Type 0 = λ q. SectionPasses q r' a b (Err e) in section_stop r' a b h reads reads' e (subst P is s) cause)
+  section_wrote : (s : Section) → IsUnfinished s → AtRead m serial (holds h h) s (of_section s)
+  section_wrote (section.Faulty line kind) f = absurd f
+  section_wrote (section.Gathered lines line found rest) f =
+      faulty_wrote (section.Gathered lines line found rest) (program_of lines (record { line = line; found = found })) (behind line found) rest (unfinished lines (record { line = line; found = found }) f) f
 
--- memory was short for the program
-pub stop_program : (l0 l1 h : Option (List ℕ)) (r r' : Reader) (g : CodeGathered) → r ≡ fresh
-    → Told l0 l1 (λ a b. SectionPasses r r' a b (Ok g))
-    → Told l0 l1 (λ a b. Stops a b h h end.NoMemory)
-stop_program l0 l1 h r r' g is x =
-    Told-map l0 l1 x (λ a b s. stop_taken a b (s.0 ++ r'.held) h (ap (λ (q : Reader). q.held ++ a) (sym is) ∙ s.1 ∙ sym (append_assoc s.0 r'.held b)))
+  -- the reader of the section stopped
+  section_stop : (r : Reader) (a b : List ℕ) (f : ReadFault) → SectionPasses fresh r a b (Err f) → Stops m serial (holds h h) a b (end_in_section f)
+  section_stop r a b read.Read s =
+      of_taken section_in s.0 a s.1 r.held b (λ lines. AtRead m serial (holds h h) (section_in lines) (parse lines)) s.2
+      (λ lines v is n. section_wrote (section_in lines) (subst IsUnfinished (sym (is ∙ ap s.0 (n s.4))) s.3))
+  section_stop r a b read.NoMemory s = stop_taken m serial a b s.0 h s.1
+  section_stop r a b (read.Fault line kind) s = tt
+
+  pub stop_section : (l0 l1 : Option (List ℕ)) (r r' : Reader) (f : ReadFault) → r ≡ fresh
+      → Told l0 l1 (λ a b. SectionPasses r r' a b (Err f)) → Told l0 l1 (λ a b. Stops m serial (holds h h) a b (end_in_section f))
+  stop_section l0 l1 r r' f is x =
+      Told-map l0 l1 x (λ a b s. let P : Reader → Type 0 = λ q. SectionPasses q r' a b (Err f) in section_stop r' a b f (subst P is s))
+
+  -- memory was short for the program
+  pub stop_program : (l0 l1 : Option (List ℕ)) (r r' : Reader) (g : CodeGathered) → r ≡ fresh
+      → Told l0 l1 (λ a b. SectionPasses r r' a b (Ok g)) → Told l0 l1 (λ a b. Stops m serial (holds h h) a b end.NoMemory)
+  stop_program l0 l1 r r' g is x =
+      Told-map l0 l1 x (λ a b s. stop_taken m serial a b (s.0 ++ r'.held) h (ap (λ (q : Reader). q.held ++ a) (sym is) ∙ s.1 ∙ sym (append_assoc s.0 r'.held b)))
 
 -- the program's section was passed
 accepted_found : (lines : List Line) (e : SectionEnd) (p : CodeProgram) → IsProgram (program_of lines e) p → e.found ≡ true
@@ -138,7 +133,7 @@ accepted_found lines e p h = by_found e.found refl where
   by_found false f = absurd (by_reading (program_of lines e) (unfinished lines e f) h)
 
 program_passed : (r : Reader) (g : CodeGathered) (p : CodeProgram) (a b : List ℕ) (s : SectionPasses fresh r a b (Ok g)) → IsProgram (program_of g.lines g.end) p → behind g.end.line g.end.found ≡ r.number + 1
-    → Passed parse (λ x. Runs (shown_program p) (events_at (shown_program p).fields first_last r x)) [] a s.0 r.held b
+    → Passed parse (λ x. Runs (shown_program p) (events_at (shown_program p).fields first_last r x)) (feed [] a) s.0 (feed r.held b)
 program_passed r g p a b s is follows =
     let found : g.end.found ≡ true = accepted_found g.lines g.end p is in
     Passed-as parse (λ x. of_section (Gathered g.lines g.end.line true (pieces_of r.limit x))) (λ x. Runs (shown_program p) (events_at (shown_program p).fields first_last r x)) [] a s.0 r.held b
@@ -146,49 +141,47 @@ program_passed r g p a b s is follows =
     (λ x. parsed (Gathered g.lines g.end.line true (pieces_of r.limit x)) g.lines g.end (pieces_of r.limit x) p (r.number + 1)
     (ap (λ t. Gathered g.lines g.end.line t (pieces_of r.limit x)) (sym found)) is follows)
 
-so_far : (p : Program) (done more : List Event) → LawfulSoFarFor groups true p (done ++ more) (sync groups p done).entries
-so_far p done more =
-    let first : Plain = sync groups p done in
-    let further : Plain = plain_steps groups p more (silent first) in
-    let whole : (sync groups p (done ++ more)).entries ≡ first.entries ++ further.entries =
-    ap (λ (s : Plain). s.entries) (steps_append groups p done more (plain_start p) ∙ steps_behind groups p more first) in
-    let P : List Entry → Type 0 = LawfulSoFar true first.entries in
-    subst P (sym whole) (lawful_so_far_front true first.entries further.entries)
+module _ (m : ℕ) (serial : Bool) (out : Holds) (p : Program) (F : List ℕ → Stream) (held a w b c : List ℕ) (done : List Event) where
+  events_passed : Passed parse (λ x. Runs p (F x)) (feed [] a) w (feed held b) → (t : Taken done F (feed held b) c)
+      → Passed parse (λ x. Runs p (in_front done (t.behind x))) (feed [] a) (w ++ t.w) (feed t.rest c)
+  events_passed s t =
+      Passed-trans parse (λ x. Runs p (F x)) (λ x. Runs p (in_front done (t.behind x))) [] a w held b t.w t.rest c s
+      (Passed-map (Runs p) F (λ x. in_front done (t.behind x)) held b t.w t.rest c t.passed)
 
-events_passed : (p : Program) (F : List ℕ → Stream) (held a w b c : List ℕ) → Passed parse (λ x. Runs p (F x)) [] a w held b → (t : Taken F held b c)
-    → Passed parse (λ x. Runs p (in_front t.done (t.behind x))) [] a (w ++ t.w) t.rest c
-events_passed p F held a w b c s t =
-    Passed-trans parse (λ x. Runs p (F x)) (λ x. Runs p (in_front t.done (t.behind x))) [] a w held b t.w t.rest c s
-    (Passed-map (Runs p) F (λ x. in_front t.done (t.behind x)) held b t.w t.rest c t.passed)
+  -- a part of what is written of the events that were taken is one of what is written of all
+  some_of_all : (s : Stream) → WritesPart m serial p done out → WritesPart m serial p (in_front done s).events out
+  some_of_all s part = (part.0, lawful_for_more m serial p done s.events part.0 part.1, part.2)
 
-part_stop : (p : Program) (F : List ℕ → Stream) (held a w b c : List ℕ) (h0 h1 : Option (List ℕ)) → Passed parse (λ x. Runs p (F x)) [] a w held b
-    → (t : Taken F held b c) → AppendsSome h0 h1 (text_of (sync groups p t.done).entries) → OfTaken a c (WrotePart h0 h1)
-part_stop p F held a w b c h0 h1 s t wrote =
-    of_taken (λ x. Runs p (in_front t.done (t.behind x))) a (w ++ t.w) t.rest c (WrotePart h0 h1) (events_passed p F held a w b c s t)
-    (λ v n. ((sync groups p t.done).entries, so_far p t.done (t.behind v).events, wrote))
+  part_stop : (At : Parsed → Type 0) → ((s : Stream) → WritesPart m serial p s.events out → At (Runs p s))
+      → Passed parse (λ x. Runs p (F x)) (feed [] a) w (feed held b) → Taken done F (feed held b) c → WritesPart m serial p done out
+      → OfTaken a c (λ lines. At (parse lines))
+  part_stop At at s t part =
+      of_taken parse (λ x. Runs p (in_front done (t.behind x))) a (w ++ t.w) t.rest c (λ lines. At (parse lines)) (events_passed s t)
+      (λ lines v is n. subst At (sym is) (at (in_front done (t.behind v)) (some_of_all (t.behind v) part)))
 
-events_stop : (p : Program) (F : List ℕ → Stream) (held a w b c : List ℕ) (h0 h1 : Option (List ℕ)) (e : End) → Passed parse (λ x. Runs p (F x)) [] a w held b
-    → EventsStop p F held b c h0 h1 e → Stops a c h0 h1 e
-events_stop p F held a w b c h0 h1 end.Read s t =
-    of_taken (λ x. Runs p (in_front t.0.done (t.0.behind x))) a (w ++ t.0.w) t.0.rest c (WroteAll h0 h1) (events_passed p F held a w b c s t.0)
-    (λ v n.
-    let none : in_front t.0.done (t.0.behind v) ≡ in_front t.0.done (ends Clean) = ap (in_front t.0.done) (ap t.0.behind (n t.2) ∙ t.1) in
-    let events : (in_front t.0.done (t.0.behind v)).events ≡ t.0.done = ap (λ (q : Stream). q.events) none ∙ append-nil t.0.done in
-    let P : List Event → Type 0 = λ es. WritesLawful p es h0 h1 in
-    subst P (sym events) ((sync groups p t.0.done).entries, lawful_itself true (sync groups p t.0.done).entries, t.3))
-events_stop p F held a w b c h0 h1 end.Write s t = part_stop p F held a w b c h0 h1 s t.0 t.1
-events_stop p F held a w b c h0 h1 end.NoMemory s t = part_stop p F held a w b c h0 h1 s t.0 t.1
-events_stop p F held a w b c h0 h1 end.Ok s t = tt
-events_stop p F held a w b c h0 h1 (end.Input line kind) s t = tt
-events_stop p F held a w b c h0 h1 (end.Program line kind) s t = tt
+  events_stop : (e : End) → Passed parse (λ x. Runs p (F x)) (feed [] a) w (feed held b)
+      → Took done F (feed held b) c e → Wrote m serial p done out e → Stops m serial out a c e
+  events_stop end.Read s t wrote =
+      of_taken parse (λ x. Runs p (in_front done (t.0.behind x))) a (w ++ t.0.w) t.0.rest c (λ lines. AtRead m serial out (section_in lines) (parse lines)) (events_passed s t.0)
+      (λ lines v is n.
+      let none : in_front done (t.0.behind v) ≡ in_front done (ends Clean) = ap (in_front done) (ap t.0.behind (n t.2) ∙ t.1) in
+      let events : (in_front done (t.0.behind v)).events ≡ done = ap (λ (q : Stream). q.events) none ∙ append-nil done in
+      let P : List Event → Type 0 = λ es. WritesLawful m serial p es out in
+      let Q : Parsed → Type 0 = AtRead m serial out (section_in lines) in
+      subst Q (sym is) (subst P (sym events) wrote))
+  events_stop end.Write s t wrote = part_stop (AtWrite m serial out) (λ q part. part) s t wrote
+  events_stop end.NoMemory s t wrote = part_stop (AtNoMemory m serial out) (λ q part. part) s t wrote
+  events_stop end.Ok s t wrote = tt
+  events_stop (end.Input line kind) s t wrote = tt
+  events_stop (end.Program line kind) s t wrote = tt
 
 -- a whole run
-pub stop_events : (l0 l1 l2 h0 h1 : Option (List ℕ)) (r r' : Reader) (g : CodeGathered) (p : CodeProgram) (e : End) → r ≡ fresh
+pub stop_events : (m : ℕ) (serial : Bool) (out : Holds) (l0 l1 l2 : Option (List ℕ)) (r r' : Reader) (g : CodeGathered) (p : CodeProgram) (done : List Event) (e : End) → r ≡ fresh
     → Told l0 l1 (λ a b. SectionPasses r r' a b (Ok g)) → IsProgram (program_of g.lines g.end) p → behind g.end.line g.end.found ≡ r'.number + 1
-    → Told l1 l2 (λ a b. EventsStop (shown_program p) (events_at (shown_program p).fields first_last r') r'.held a b h0 h1 e)
-    → Told l0 l2 (λ a b. Stops a b h0 h1 e)
-stop_events l0 l1 l2 h0 h1 r r' g p e is x reads follows y =
+    → Told l1 l2 (λ a b. Took done (events_at (shown_program p).fields first_last r') (feed_of r' a) b e) → Wrote m serial (shown_program p) done out e
+    → Told l0 l2 (λ a b. Stops m serial out a b e)
+stop_events m serial out l0 l1 l2 r r' g p done e is x reads follows y wrote =
     Told-trans l0 l1 l2 x y (λ a b c s t.
     let P : Reader → Type 0 = λ q. SectionPasses q r' a b (Ok g) in
     let passes : SectionPasses fresh r' a b (Ok g) = subst P is s in
-    events_stop (shown_program p) (events_at (shown_program p).fields first_last r') r'.held a passes.0 b c h0 h1 e (program_passed r' g p a b passes reads follows) t)
+    events_stop m serial out (shown_program p) (events_at (shown_program p).fields first_last r') r'.held a passes.0 b c done e (program_passed r' g p a b passes reads follows) t wrote)

@@ -82,6 +82,10 @@ of_section (Gathered lines end found rest) = of_reading (program_of lines (recor
 abbrev pub most_bytes : ℕ
 most_bytes = 2 ^ 40
 
+-- the program section of the bytes of an input
+abbrev pub section_in : List ℕ → Section
+section_in bytes = section_of 1 0 (pieces_of most_bytes bytes)
+
 -- what the bytes of an input say
 abbrev pub parse : List ℕ → Parsed
-parse bytes = of_section (section_of 1 0 (pieces_of most_bytes bytes))
+parse bytes = of_section (section_in bytes)

@@ -1,5 +1,5 @@
 -- The program section: the lines up to `%%`, without blank lines and comments.
-use Rattle.std.specs.Prelude.{ℕ, ◌+◌, List, [], ◌∷◌, length, Bool, true, false, if◌then◌else◌, nat_lt}
+use Rattle.std.specs.Prelude.{◌≡◌, ℕ, ◌+◌, List, [], ◌∷◌, length, Bool, true, false, if◌then◌else◌, nat_lt}
 use lib.Chars.{codes}
 use Rattle.ax_base.specs.Words.{words_of}
 use Rattle.ax_base.specs.Pieces.{Piece, Whole, TooLong, TooMuch}
@@ -37,3 +37,8 @@ section_of n kept (Whole text ∷ ps) =
     if is_section_end text then Gathered [] n true ps else
     if is_skipped text then section_of (n + 1) kept ps else
     if nat_lt most_kept (kept + length text) then Faulty n 8 else with_line n text (section_of (n + 1) (kept + length text) ps)
+
+-- the lines ended before the section did
+abbrev pub IsUnfinished : Section → Type 0
+IsUnfinished (Faulty line kind) = ⊥
+IsUnfinished (Gathered lines end found rest) = found ≡ false

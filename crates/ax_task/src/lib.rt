@@ -4,10 +4,11 @@
 //! own parts.
 #![tactic(auto)]
 
-pub mod end;
-pub mod section;
-pub mod stream;
-pub mod task;
+mod end;
+mod read_fault;
+mod section;
+mod stream;
+mod task;
 
 pub use end::End;
 pub use task::run_task_alone;

@@ -5,12 +5,12 @@ ghost use Rattle.ax_base.specs.Given.{ahead};
 ghost use Rattle.ax_base.specs.Words.{words_of};
 ghost use Rattle.ax_task.specs.Sections.{is_section_end, section_of, most_kept};
 ghost use Rattle.ax_task.specs.Parse.{behind};
-ghost use Rattle.ax_task.specs.Reads.{SectionOf, Keeps, ReadCause};
+ghost use Rattle.ax_task.specs.Reads.{SectionOf, Keeps, ReaderCount};
 ghost use Rattle.ax_task.specs.Passes.{SectionPasses};
 
-use crate::end::End;
+use crate::read_fault::ReadFault;
 use ax_base::words::first_word;
-use ax_base::{Line, LineFault, Lines, ListOf, Source};
+use ax_base::{Line, LineFault, Lines, ListOf, NoMemory, Source};
 use ax_input::is_skipped;
 use ax_lang::SectionEnd;
 use ax_syntax::words::same;
@@ -41,21 +41,18 @@ struct Kept {
 }
 
 impl Kept {
-    // Keeps a line, where the limit allows it.
-    fn keep(&mut self, line: Line) -> Result<(), End>
+    // Keeps a line, unless the kept lines then pass their limit; whether it was kept.
+    fn keep(&mut self, line: Line) -> Result<bool, NoMemory>
         requires { self.old.bytes ≤ most_kept }
         ensures { Keeps self.old line self.new result }
     {
-        let number = line.number;
         let bytes = self.bytes + line.text.len() as u64;
         if bytes > MOST_KEPT {
-            return Err(fault(number, TOO_MANY));
+            return Ok(false);
         }
-        if self.lines.push(line).is_err() {
-            return Err(End::NoMemory);
-        }
+        self.lines.push(line)?;
         self.bytes = bytes;
-        Ok(())
+        Ok(true)
     }
 
     // The section of these lines, by where it ended.
@@ -71,11 +68,11 @@ impl Kept {
     }
 }
 
-// The end of a run at a fault of the section.
-fn fault(line: u64, kind: u8) -> End
-    ensures { result ≡ End.Program line kind }
+// A fault of the section.
+fn fault(line: u64, kind: u8) -> ReadFault
+    ensures { result ≡ ReadFault.Fault line kind }
 {
-    End::Program { line, kind }
+    ReadFault::Fault { line, kind }
 }
 
 // Whether a line is `%%` alone.
@@ -90,18 +87,21 @@ fn is_section_end(text: &[u8]) -> bool
 
 /// Gathers the program section, up to its end or the end of the input.
 ///
-/// `End::Program` has the first line that is too long (kind 11), in which the input passes its
-/// limit (12), or with which the kept lines have more than 1,048,576 bytes (8). `End::Read` comes
+/// `Fault` names the first line that is too long (kind 11), in which the input passes its
+/// limit (12), or with which the kept lines have more than 1,048,576 bytes (8). `Read` comes
 /// where the source failed. After an `Err` the reader of lines is done with.
-pub fn gather<S: Source>(alloc: Global, lines: &mut Lines, input: &mut S) -> Result<Gathered, End>
+pub fn gather<S: Source>(
+    alloc: Global,
+    lines: &mut Lines,
+    input: &mut S,
+) -> Result<Gathered, ReadFault>
     requires { lines.old.failed ≡ false }
     ensures told { Told (S.left input.old) (S.left input.new)
         (λ a b. SectionOf (section_of (lines.old.number + 1) 0 (ahead lines.old a)) (ahead lines.new b) result) }
     ensures passes { Told (S.left input.old) (S.left input.new) (λ a b. SectionPasses lines.old lines.new a b result) }
     ensures behind { IfOk result (λ g. behind g.end.line g.end.found ≡ lines.new.number + 1) }
     ensures sound { OnOk result (lines.new.failed ≡ false) }
-    ensures faults { S.faults input.old ≤ S.faults input.new }
-    ensures cause { ReadCause (S.faults input.old) (S.faults input.new) result }
+    ensures count { ReaderCount (S.faults input.old) (S.faults input.new) result }
 {
     let mut kept = Kept {
         lines: ListOf::new(alloc),
@@ -113,19 +113,22 @@ pub fn gather<S: Source>(alloc: Global, lines: &mut Lines, input: &mut S) -> Res
                 return Ok(kept.ended(lines.number() + 1, false));
             }
             Ok(Some(line)) => {
+                let number = line.number;
                 if is_section_end(line.text.as_slice()) {
-                    return Ok(kept.ended(line.number, true));
+                    return Ok(kept.ended(number, true));
                 }
                 if !is_skipped(line.text.as_slice()) {
-                    if let Err(end) = kept.keep(line) {
-                        return Err(end);
+                    match kept.keep(line) {
+                        Ok(true) => {}
+                        Ok(false) => return Err(fault(number, TOO_MANY)),
+                        Err(NoMemory) => return Err(ReadFault::NoMemory),
                     }
                 }
             }
-            Err(LineFault::Read) => return Err(End::Read),
+            Err(LineFault::Read) => return Err(ReadFault::Read),
             Err(LineFault::TooLong { number }) => return Err(fault(number, TOO_LONG)),
             Err(LineFault::TooMuch { number }) => return Err(fault(number, TOO_MUCH)),
-            Err(LineFault::NoMemory) => return Err(End::NoMemory),
+            Err(LineFault::NoMemory) => return Err(ReadFault::NoMemory),
         }
     }
 }

@@ -5,10 +5,10 @@ ghost use Rattle.ax_base.specs.Given.{ahead};
 ghost use Rattle.ax_input.specs.Events.{event_of};
 ghost use Rattle.ax_input.specs.Shown.{shown_event};
 ghost use Rattle.ax_task.specs.Parse.{stream_of, in_order, is_late, last_after, first_last};
-ghost use Rattle.ax_task.specs.Reads.{NextOf, ReadCause, kind_number, IsFaultAt, ReadsLine};
-ghost use Rattle.ax_task.specs.Passes.{events_at, NextPasses};
+ghost use Rattle.ax_task.specs.Reads.{NextOf, ReaderCount, kind_number, line_fault, ReadsLine};
+ghost use Rattle.ax_task.specs.Passes.{events_at, feed_of, NextPasses};
 
-use crate::end::End;
+use crate::read_fault::ReadFault;
 use ax_base::{Line, LineFault, Lines, Source};
 use ax_input::{Event, EventFault, is_skipped, read_event};
 use std::alloc::Global;
@@ -34,20 +34,13 @@ fn kind_of(fault: EventFault) -> Option<u8>
     }
 }
 
-// The end of a run at a line with a fault of this kind.
-fn fault(line: u64, kind: u8) -> End
-    ensures { result ≡ End.Input line kind }
+// The fault of a line that gave no event, by its kind; want of memory has none.
+fn fault_at(line: u64, kind: Option<u8>) -> ReadFault
+    ensures { result ≡ line_fault line kind }
 {
-    End::Input { line, kind }
-}
-
-// The end of a run at a line that is no event.
-fn end_at(line: u64, fault: EventFault) -> End
-    ensures { IsFaultAt line fault result }
-{
-    match kind_of(fault) {
-        Some(kind) => End::Input { line, kind },
-        None => End::NoMemory,
+    match kind {
+        Some(kind) => ReadFault::Fault { line, kind },
+        None => ReadFault::NoMemory,
     }
 }
 
@@ -87,18 +80,18 @@ impl EventReader {
         }
     }
 
-    // The event of a line, or the end of the run at it.
-    fn event_at(&mut self, alloc: Global, line: &Line) -> Result<Event, End>
+    // The event of a line, or the kind of its fault, which want of memory has not.
+    fn event_at(&mut self, alloc: Global, line: &Line) -> Result<Event, Option<u8>>
         ensures fields { self.new.fields ≡ self.old.fields }
-        ensures reads { ReadsLine (in_order self.old.last (event_of self.old.fields line.now.text)) line.now.number result }
+        ensures reads { ReadsLine (in_order self.old.last (event_of self.old.fields line.now.text)) result }
         ensures last { IfOk result (λ event. self.new.last ≡ last_after (shown_event event) self.old.last) }
     {
         let event = match read_event(alloc, line.text.as_slice(), self.fields) {
             Ok(event) => event,
-            Err(fault) => return Err(end_at(line.number, fault)),
+            Err(fault) => return Err(kind_of(fault)),
         };
         if self.is_late(&event) {
-            return Err(fault(line.number, LATE));
+            return Err(Some(LATE));
         }
         self.pass(&event);
         Ok(event)
@@ -106,25 +99,24 @@ impl EventReader {
 
     /// The next event, over blank lines and comments; `None` at the end of the input.
     ///
-    /// `End::Input` has the first line with a fault and its first kind: those of events, a barrier whose ID isn't greater
-    /// than each before it (5), a line that is too long (6), and one in which the input passes its limit (7). `End::Read`
+    /// `Fault` names the first line with a fault and its first kind: those of events, a barrier whose ID isn't greater
+    /// than each before it (5), a line that is too long (6), and one in which the input passes its limit (7). `Read`
     /// comes where the source failed. After an `Err` no further event is to be asked for.
     pub fn next<S: Source>(
         &mut self,
         alloc: Global,
         lines: &mut Lines,
         input: &mut S,
-    ) -> Result<Option<Event>, End>
+    ) -> Result<Option<Event>, ReadFault>
         requires { lines.old.failed ≡ false }
         ensures told { Told (S.left input.old) (S.left input.new)
             (λ a b. NextOf (stream_of self.old.fields self.old.last (lines.old.number + 1) (ahead lines.old a))
             (stream_of self.new.fields self.new.last (lines.new.number + 1) (ahead lines.new b)) b result) }
         ensures passes { Told (S.left input.old) (S.left input.new)
-            (λ a b. NextPasses (events_at self.old.fields self.old.last lines.old) (events_at self.new.fields self.new.last lines.new) lines.old.held lines.new.held a b result) }
+            (λ a b. NextPasses (events_at self.old.fields self.old.last lines.old) (events_at self.new.fields self.new.last lines.new) (feed_of lines.old a) (feed_of lines.new b) result) }
         ensures less { IfOk result (λ event. IsSome event → lines.new.limit < lines.old.limit) }
         ensures sound { OnOk result (lines.new.failed ≡ false) }
-        ensures faults { S.faults input.old ≤ S.faults input.new }
-        ensures cause { ReadCause (S.faults input.old) (S.faults input.new) result }
+        ensures count { ReaderCount (S.faults input.old) (S.faults input.new) result }
     {
         'line: loop {
             match lines.next(input) {
@@ -133,14 +125,24 @@ impl EventReader {
                     if !is_skipped(line.text.as_slice()) {
                         match self.event_at(alloc, &line) {
                             Ok(event) => return Ok(Some(event)),
-                            Err(end) => return Err(end),
+                            Err(kind) => return Err(fault_at(line.number, kind)),
                         }
                     }
                 }
-                Err(LineFault::Read) => return Err(End::Read),
-                Err(LineFault::TooLong { number }) => return Err(fault(number, TOO_LONG)),
-                Err(LineFault::TooMuch { number }) => return Err(fault(number, TOO_MUCH)),
-                Err(LineFault::NoMemory) => return Err(End::NoMemory),
+                Err(LineFault::Read) => return Err(ReadFault::Read),
+                Err(LineFault::TooLong { number }) => {
+                    return Err(ReadFault::Fault {
+                        line: number,
+                        kind: TOO_LONG,
+                    });
+                }
+                Err(LineFault::TooMuch { number }) => {
+                    return Err(ReadFault::Fault {
+                        line: number,
+                        kind: TOO_MUCH,
+                    });
+                }
+                Err(LineFault::NoMemory) => return Err(ReadFault::NoMemory),
             }
         }
     }

@@ -117,10 +117,10 @@ fn each_write_of_a_byte_fails(rt: HostRuntime) -> Result<(), Fail> {
 #[test]
 fn each_write_of_seven_bytes_fails(rt: HostRuntime) -> Result<(), Fail> {
     write_fails(&rt, 7, 1, Status::Write, first(0))?;
-    write_fails(&rt, 7, 2, Status::Write, first(6))?;
-    write_fails(&rt, 7, 3, Status::Write, first(12))?;
+    write_fails(&rt, 7, 2, Status::Write, first(7))?;
+    write_fails(&rt, 7, 3, Status::Write, first(14))?;
+    // behind the watermark
     write_fails(&rt, 7, 4, Status::Write, first(16))?;
-    // the block
     write_fails(&rt, 7, 5, Status::Write, first(23))?;
     write_fails(&rt, 7, 6, Status::Write, first(30))?;
     write_fails(&rt, 7, 9, Status::Write, first(51))?;

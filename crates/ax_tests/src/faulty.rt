@@ -88,9 +88,9 @@ impl FaultySink {
 impl Sink for FaultySink {
     ghost holds = { λ s. None };
 
-    ghost faults = { λ s. s.faults };
+    ghost counts = { λ s. record { faults = s.faults; short = s.short } };
 
-    ghost short = { λ s. s.short };
+    ghost base = { λ s. None };
 
     fn write(&mut self, piece: &[u8]) -> Result<usize, SinkFault> {
         let before = self.writes;

@@ -92,6 +92,7 @@ fn source_fails_at_its_second_read(rt: HostRuntime) -> Result<(), Fail> {
             Status::Input { line: 10, kind: 1 },
         ),
         ("zzz\n", "r a 1 5\n", "", program(1, 1)),
+        ("zzz\n", "", "", program(1, 1)),
     ];
     for (before, events, out, status) in cases {
         let mut source = FaultySource::new(

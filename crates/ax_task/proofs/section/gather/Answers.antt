@@ -1,7 +1,7 @@
 use Rattle.std.proofs.Common.{rules, ◌∙◌, sym, ap, arith}
 use Rattle.ax_input.specs.Events.{is_skipped}
 use Rattle.ax_task.specs.Sections.{is_section_end}
-use Rattle.ax_task.proofs.Passing.{section_skips, section_keeps, section_kept, section_found, section_fails, section_lacks, section_err}
+use Rattle.ax_task.proofs.Passing.{section_skips, section_keeps, section_kept, section_found, section_fails, section_lacks}
 use Rattle.ax_task.proofs.section.gather.Goals as goal
 
 pub returns-then-is_section_end-clause-passes : goal.returns-then-is_section_end-clause-passes
@@ -12,15 +12,8 @@ returns-then-is_section_end-clause-passes g c =
     (ap is_section_end (sym c.as_slice.ensures) ∙ sym c.is_section_end.ensures ∙ c.if-is_section_end.true) (rw c.in-Ok-Some.field-0-is at c.in-Ok-Some.ensures.steps).0
     c.ended-then-is_section_end.ensures.lines c.ended-then-is_section_end.ensures.line
 
-pub returns-in-Err-clause-passes : goal.returns-in-Err-clause-passes
-returns-in-Err-clause-passes g c =
-    let left = g.S.Source.left in
-    let r = rw c.in-Ok-Some.field-0-is at c.in-Ok-Some.ensures.read_here in
-    section_err (left c.args.input.now) (left c.line.input) (left c.next.new.input) c.line.kept.lines c.line.kept.bytes c.args.lines.now c.line.lines c.next.new.self r.0 c.line.kept c.keep.new.self c.in-Ok-Some.line c.in-Err.end
-    c.line.invariant.goes r.1 c.in-Err.ensures
-
-pub line-preserved-in_default : goal.line-preserved-in_default
-line-preserved-in_default g c =
+pub line-preserved-in-Ok-true : goal.line-preserved-in-Ok-true
+line-preserved-in-Ok-true g c =
     let left = g.S.Source.left in
     let l0 = left c.args.input.now in
     let l1 = left c.line.input in
@@ -28,7 +21,7 @@ line-preserved-in_default g c =
     let line = c.in-Ok-Some.line in
     let is = c.in-Ok-Some.field-0-is in
     let steps = rw is at c.in-Ok-Some.ensures.steps in
-    let kept = c.in_default.ensures in
+    let kept = rw c.in-Ok-true.field-0-test at c.in-Ok-true.ensures in
     let inside = ap is_section_end (sym c.as_slice.ensures) ∙ sym c.is_section_end.ensures ∙ c.if-is_section_end.false in
     let taken = ap is_skipped (sym c.as_slice-in-Ok-Some.ensures) ∙ sym c.is_skipped.ensures ∙ c.if-not-is_skipped.true in
     record {
@@ -38,7 +31,7 @@ line-preserved-in_default g c =
           c.line.invariant.goes (rw is at c.in-Ok-Some.ensures.read_here) inside taken steps.0 steps.1 kept.0 kept.1 kept.2;
       few = search rules;
       sound = search rules;
-      faults = omega (arith, c.next.ensures.faults);
+      count = c.in-Ok-Some.ensures.count ∙ c.line.invariant.count;
     }
 
 pub line-preserved : goal.line-preserved
@@ -52,7 +45,7 @@ line-preserved g c =
           (ap is_skipped (sym c.as_slice-in-Ok-Some.ensures) ∙ sym c.is_skipped.ensures ∙ c.if-not-is_skipped.false) (rw c.in-Ok-Some.field-0-is at c.in-Ok-Some.ensures.steps).1;
       few = search rules;
       sound = search rules;
-      faults = omega (arith, c.next.ensures.faults);
+      count = c.in-Ok-Some.ensures.count ∙ c.line.invariant.count;
     }
 
 pub returns-in-Err-Read-clause-passes : goal.returns-in-Err-Read-clause-passes
@@ -65,5 +58,12 @@ pub returns-in-Err-NoMemory-clause-passes : goal.returns-in-Err-NoMemory-clause-
 returns-in-Err-NoMemory-clause-passes g c =
     let left = g.S.Source.left in
     let r = rw c.in-Err-NoMemory.field-0-is at c.in-Err-NoMemory.ensures.read_here in
+    section_lacks (left c.args.input.now) (left c.line.input) (left c.next.new.input) c.line.kept.lines c.line.kept.bytes c.args.lines.now c.line.lines c.next.new.self r.0
+    c.line.invariant.goes r.1
+
+pub returns-in-Err-clause-passes : goal.returns-in-Err-clause-passes
+returns-in-Err-clause-passes g c =
+    let left = g.S.Source.left in
+    let r = rw c.in-Ok-Some.field-0-is at c.in-Ok-Some.ensures.read_here in
     section_lacks (left c.args.input.now) (left c.line.input) (left c.next.new.input) c.line.kept.lines c.line.kept.bytes c.args.lines.now c.line.lines c.next.new.self r.0
     c.line.invariant.goes r.1

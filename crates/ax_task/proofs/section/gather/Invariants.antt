@@ -13,7 +13,7 @@ invariant-line g l = record {
   goes : Told (g.S.Source.left l.fn.input) (g.S.Source.left l.input) (λ a b. SectionGoes l.kept.lines l.kept.bytes l.fn.lines l.lines a b);
   few : l.kept.bytes ≤ most_kept;
   sound : l.lines.failed ≡ false;
-  faults : g.S.Source.faults l.fn.input ≤ g.S.Source.faults l.input;
+  count : g.S.Source.faults l.input ≡ g.S.Source.faults l.fn.input;
 }
 
 abbrev pub decreases-line : goal.decreases-line

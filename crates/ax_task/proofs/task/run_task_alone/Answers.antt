@@ -1,35 +1,59 @@
-use Rattle.ax_task.proofs.Whole.{whole_run}
+use Rattle.std.proofs.Common.{true, subst, sym}
+use Rattle.ax_base.specs.Outside.{Told}
+use Rattle.ax_task.specs.Parse.{parse}
+use Rattle.ax_task.specs.Clause.{RunEnds, Stops, EndCounts}
+use Rattle.ax_task.specs.declared.end.End.{End}
+use Rattle.ax_task.proofs.Progress.{holds}
+use Rattle.ax_task.proofs.Whole.{whole_run, section_told, section_counts}
 use Rattle.ax_task.proofs.Stopped.{stop_start, stop_section, stop_program, stop_events}
 use Rattle.ax_task.proofs.task.run_task_alone.Goals as goal
 
 pub returns-in-Ok-read_program-clause-told : goal.returns-in-Ok-read_program-clause-told
 returns-in-Ok-read_program-clause-told g c =
     let left = g.S.Source.left in
-    let holds = g.K.Sink.holds in
+    let held = g.K.Sink.holds in
     let section = c.in-Ok-gather.section in
-    whole_run (left c.args.input.now) (left c.gather.new.input) (left c.run_events.new.input) (holds c.args.out.now) (holds c.run_events.new.out)
+    whole_run c.args.groups true (holds (held c.args.out.now) (held c.run_events.new.out)) (left c.args.input.now) (left c.gather.new.input) (left c.run_events.new.input)
     c.in-Ok.lines c.gather.new.lines section.lines section.end c.in-Ok-read_program.program c.run_events.result
     c.in-Ok.ensures c.in-Ok-gather.ensures.told (rw c.as_slice.ensures at c.in-Ok-read_program.ensures) c.in-Ok-gather.ensures.behind c.run_events.ensures.told
 
 pub returns-in-Ok-read_program-clause-stopped : goal.returns-in-Ok-read_program-clause-stopped
 returns-in-Ok-read_program-clause-stopped g c =
     let left = g.S.Source.left in
-    let holds = g.K.Sink.holds in
+    let held = g.K.Sink.holds in
     let section = c.in-Ok-gather.section in
-    stop_events (left c.args.input.now) (left c.gather.new.input) (left c.run_events.new.input) (holds c.args.out.now) (holds c.run_events.new.out)
-    c.in-Ok.lines c.gather.new.lines section c.in-Ok-read_program.program c.run_events.result
-    c.in-Ok.ensures c.in-Ok-gather.ensures.passes (rw c.as_slice.ensures at c.in-Ok-read_program.ensures) c.in-Ok-gather.ensures.behind c.run_events.ensures.stopped
+    let run = c.run_events.ensures.stopped in
+    stop_events c.args.groups true (holds (held c.args.out.now) (held c.run_events.new.out)) (left c.args.input.now) (left c.gather.new.input) (left c.run_events.new.input)
+    c.in-Ok.lines c.gather.new.lines section c.in-Ok-read_program.program run.0 c.run_events.result
+    c.in-Ok.ensures c.in-Ok-gather.ensures.passes (rw c.as_slice.ensures at c.in-Ok-read_program.ensures) c.in-Ok-gather.ensures.behind run.1 run.2
+
+pub returns-in_default-clause-stopped : goal.returns-in_default-clause-stopped
+returns-in_default-clause-stopped g c = stop_start c.args.groups true (g.S.Source.left c.args.input.now) (g.K.Sink.holds c.args.out.now)
+
+pub returns-in-Err-clause-told : goal.returns-in-Err-clause-told
+returns-in-Err-clause-told g c =
+    let left = g.S.Source.left in
+    let h = g.K.Sink.holds c.args.out.now in
+    let Ends : End → Type 0 = λ e. Told (left c.args.input.now) (left c.gather.new.input) (λ a b. RunEnds c.args.groups true (holds h h) (parse a) b e) in
+    subst Ends (sym c.end_in_section.ensures)
+    (section_told c.args.groups true h (left c.args.input.now) (left c.gather.new.input) c.in-Ok.lines c.gather.new.lines c.in-Err.fault c.in-Ok.ensures c.in-Err.ensures.told)
 
 pub returns-in-Err-clause-stopped : goal.returns-in-Err-clause-stopped
-returns-in-Err-clause-stopped g c = stop_start (g.S.Source.left c.args.input.now) (g.K.Sink.holds c.args.out.now)
-
-pub returns-in-Err-gather-clause-stopped : goal.returns-in-Err-gather-clause-stopped
-returns-in-Err-gather-clause-stopped g c =
+returns-in-Err-clause-stopped g c =
     let left = g.S.Source.left in
-    stop_section (left c.args.input.now) (left c.gather.new.input) (g.K.Sink.holds c.args.out.now) c.in-Ok.lines c.gather.new.lines
-    (g.S.Source.faults c.args.input.now) (g.S.Source.faults c.gather.new.input) c.in-Err-gather.end c.in-Ok.ensures c.in-Err-gather.ensures.passes c.in-Err-gather.ensures.cause
+    let h = g.K.Sink.holds c.args.out.now in
+    let Stopped : End → Type 0 = λ e. Told (left c.args.input.now) (left c.gather.new.input) (λ a b. Stops c.args.groups true (holds h h) a b e) in
+    subst Stopped (sym c.end_in_section.ensures)
+    (stop_section c.args.groups true h (left c.args.input.now) (left c.gather.new.input) c.in-Ok.lines c.gather.new.lines c.in-Err.fault c.in-Ok.ensures c.in-Err.ensures.passes)
+
+pub returns-in-Err-clause-counts : goal.returns-in-Err-clause-counts
+returns-in-Err-clause-counts g c =
+    let writes = g.K.Sink.counts c.args.out.now in
+    let reads = g.S.Source.faults in
+    let Counted : End → Type 0 = EndCounts (record { reads = reads c.args.input.now; writes = writes }) (record { reads = reads c.gather.new.input; writes = writes }) in
+    subst Counted (sym c.end_in_section.ensures) (section_counts (reads c.args.input.now) (reads c.gather.new.input) writes c.in-Err.fault c.in-Err.ensures.count)
 
 pub returns-clause-stopped : goal.returns-clause-stopped
 returns-clause-stopped g c =
     let left = g.S.Source.left in
-    stop_program (left c.args.input.now) (left c.gather.new.input) (g.K.Sink.holds c.args.out.now) c.in-Ok.lines c.gather.new.lines c.in-Ok-gather.section c.in-Ok.ensures c.in-Ok-gather.ensures.passes
+    stop_program c.args.groups true (g.K.Sink.holds c.args.out.now) (left c.args.input.now) (left c.gather.new.input) c.in-Ok.lines c.gather.new.lines c.in-Ok-gather.section c.in-Ok.ensures c.in-Ok-gather.ensures.passes

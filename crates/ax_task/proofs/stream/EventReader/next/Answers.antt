@@ -1,6 +1,6 @@
 use Rattle.std.proofs.Common.{rules, ◌∙◌, sym, ap, arith}
 use Rattle.ax_input.specs.Events.{is_skipped}
-use Rattle.ax_task.proofs.Passing.{goes_on, next_skips, next_event_passes, next_err_passes, next_fails, next_lacks}
+use Rattle.ax_task.proofs.Passing.{goes_on, next_skips, next_event_passes, next_err_passes, next_fails, some_passes}
 use Rattle.ax_task.specs.Passes.{events_at}
 use Rattle.ax_task.proofs.stream.EventReader.next.Goals as goal
 
@@ -10,9 +10,10 @@ returns-in-Err-clause-passes g c =
     let first = c.args.self.now in
     let now = c.line.self in
     let behind = c.event_at.new.self in
-    next_err_passes (events_at first.fields first.last c.args.lines.now) (events_at now.fields now.last c.line.lines) (events_at behind.fields behind.last c.next.new.self)
-    c.args.lines.now.held c.line.lines.held c.next.new.self.held (left c.args.input.now) (left c.line.input) (left c.next.new.input) c.line.lines c.next.new.self c.in-Ok-Some.line c.in-Err.end _ _
-    c.line.invariant.goes (rw c.in-Ok-Some.field-0-is at c.in-Ok-Some.ensures.read_here) c.in-Err.ensures.reads
+    let read = rw c.in-Ok-Some.field-0-is at c.in-Ok-Some.ensures.read_here in
+    next_err_passes (events_at first.fields first.last c.args.lines.now) (events_at now.fields now.last c.line.lines) c.args.lines.now.held c.line.lines.held (left c.args.input.now) (left c.line.input) (left c.next.new.input)
+    (events_at behind.fields behind.last c.next.new.self) c.next.new.self.held read.0 c.in-Ok-Some.line.number c.in-Err.kind c.fault_at.result c.fault_at.ensures
+    c.line.invariant.goes read.1
 
 pub line-preserved : goal.line-preserved
 line-preserved g c =
@@ -27,7 +28,7 @@ line-preserved g c =
           (ap is_skipped (sym c.as_slice.ensures) ∙ sym c.is_skipped.ensures ∙ c.if-not-is_skipped.false) (rw c.in-Ok-Some.field-0-is at c.in-Ok-Some.ensures.steps).1);
       sound = search rules;
       less = search rules;
-      faults = omega (arith, c.next.ensures.faults);
+      count = c.in-Ok-Some.ensures.count ∙ c.line.invariant.count;
     }
 
 pub returns-in-Err-Read-clause-passes : goal.returns-in-Err-Read-clause-passes
@@ -44,9 +45,36 @@ returns-in-Err-NoMemory-clause-passes g c =
     let left = g.S.Source.left in
     let first = c.args.self.now in
     let now = c.line.self in
-    next_lacks (events_at first.fields first.last c.args.lines.now) (events_at now.fields now.last c.line.lines) (events_at now.fields now.last c.next.new.self)
-    c.args.lines.now.held c.line.lines.held c.next.new.self.held (left c.args.input.now) (left c.line.input) (left c.next.new.input) c.line.lines c.next.new.self
-    c.line.invariant.goes (rw c.in-Err-NoMemory.field-0-is at c.in-Err-NoMemory.ensures.read_here)
+    let read = rw c.in-Err-NoMemory.field-0-is at c.in-Err-NoMemory.ensures.read_here in
+    some_passes (events_at first.fields first.last c.args.lines.now) (events_at now.fields now.last c.line.lines) c.args.lines.now.held c.line.lines.held (left c.args.input.now) (left c.line.input) (left c.next.new.input)
+    read.0 c.line.invariant.goes read.1
+
+pub returns-in-Ok-None-clause-passes : goal.returns-in-Ok-None-clause-passes
+returns-in-Ok-None-clause-passes g c =
+    let left = g.S.Source.left in
+    let first = c.args.self.now in
+    let now = c.line.self in
+    let read = rw c.in-Ok-None.field-0-is at c.in-Ok-None.ensures.read_here in
+    some_passes (events_at first.fields first.last c.args.lines.now) (events_at now.fields now.last c.line.lines) c.args.lines.now.held c.line.lines.held (left c.args.input.now) (left c.line.input) (left c.next.new.input)
+    read.0 c.line.invariant.goes read.1
+
+pub returns-in-Err-TooLong-clause-passes : goal.returns-in-Err-TooLong-clause-passes
+returns-in-Err-TooLong-clause-passes g c =
+    let left = g.S.Source.left in
+    let first = c.args.self.now in
+    let now = c.line.self in
+    let read = rw c.in-Err-TooLong.field-0-is at c.in-Err-TooLong.ensures.read_here in
+    some_passes (events_at first.fields first.last c.args.lines.now) (events_at now.fields now.last c.line.lines) c.args.lines.now.held c.line.lines.held (left c.args.input.now) (left c.line.input) (left c.next.new.input)
+    read.0 c.line.invariant.goes read.1
+
+pub returns-in-Err-TooMuch-clause-passes : goal.returns-in-Err-TooMuch-clause-passes
+returns-in-Err-TooMuch-clause-passes g c =
+    let left = g.S.Source.left in
+    let first = c.args.self.now in
+    let now = c.line.self in
+    let read = rw c.in-Err-TooMuch.field-0-is at c.in-Err-TooMuch.ensures.read_here in
+    some_passes (events_at first.fields first.last c.args.lines.now) (events_at now.fields now.last c.line.lines) c.args.lines.now.held c.line.lines.held (left c.args.input.now) (left c.line.input) (left c.next.new.input)
+    read.0 c.line.invariant.goes read.1
 
 pub returns-in-Ok-clause-passes : goal.returns-in-Ok-clause-passes
 returns-in-Ok-clause-passes g c =
