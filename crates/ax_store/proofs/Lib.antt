@@ -1,0 +1,6 @@
+pub mod ContentLemmas
+pub mod KeyLemmas
+pub mod LiveLemmas
+pub mod MergeLemmas
+pub mod PrefixLemmas
+pub mod SearchLemmas
