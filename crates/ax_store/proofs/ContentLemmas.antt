@@ -6,11 +6,17 @@ use Rattle.std.specs.Cmp.Lexicographic.{slice_cmp, nat_list_cmp_total}
 use Rattle.std.specs.Map.{lookup}
 use Rattle.std.specs.BTreeMap.{is_at}
 use Rattle.std.specs.FinMap.{FinMap, empty, get, insert, remove, get-empty, get-insert, get-remove, same_map, slice_cmp-IsAntisymmetric, nat_cmp-IsAntisymmetric}
+use Rattle.std.specs.FinMap.Entries.{find}
 use Rattle.ax_store.specs.declared.change.Change.{Change}
 use Rattle.ax_store.specs.declared.change.Change.TheVariants.{Put, Delete}
 use Rattle.ax_store.specs.Held.{Text, Content, bytes_cmp}
-use Rattle.ax_store.specs.Entries.{Layer, entry_at}
-use Rattle.ax_store.specs.Layers.{changed, over, content_of, newest, or_below, shown}
+use Rattle.ax_store.specs.Entries.{Layer, entry_at, or_below}
+use Rattle.ax_store.specs.Layers.{changed, over, content_of, newest_of, shown}
+
+-- what a layer says, as a map of lists finds it
+pub find-entry : (es : Layer) (q : Text) → find bytes_cmp q es ≡ entry_at es q
+find-entry [] q = refl
+find-entry (e ∷ es) q = ap (cond (is_eq (bytes_cmp q e.0)) (Some e.1)) (find-entry es q)
 
 -- what an entry makes of what is below
 abbrev pub by_entry : Option Change → Option Text → Option Text
@@ -37,9 +43,9 @@ shown_or (Some Delete) rest = refl
 shown_or None rest = refl
 
 -- what the layers say of a key
-pub get_content : (layers : List Layer) (q : Text) → get (content_of layers) q ≡ shown (newest layers q)
+pub get_content : (layers : List Layer) (q : Text) → get (content_of layers) q ≡ shown (newest_of layers q)
 get_content [] q = get-empty bytes_cmp q
-get_content (layer ∷ layers) q = get_over layer (content_of layers) q ∙ ap (by_entry (entry_at layer q)) (get_content layers q) ∙ shown_or (entry_at layer q) (newest layers q)
+get_content (layer ∷ layers) q = get_over layer (content_of layers) q ∙ ap (by_entry (entry_at layer q)) (get_content layers q) ∙ shown_or (entry_at layer q) (newest_of layers q)
 
 pub same_content : (a b : Content) → ((q : Text) → get a q ≡ get b q) → a ≡ b
 same_content a b h = same_map nat_list_cmp_total (slice_cmp-IsAntisymmetric nat_cmp-IsAntisymmetric) a b h

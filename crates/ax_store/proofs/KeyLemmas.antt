@@ -14,6 +14,7 @@ use Rattle.std.specs.BTreeMap.{is_at, insert_entry}
 use Rattle.ax_store.specs.declared.change.Change.{Change}
 use Rattle.ax_store.specs.Held.{Text, bytes_cmp, begins}
 use Rattle.ax_store.specs.Entries.{Layer, IsRising, entry_at, texts, part, is_before}
+use Rattle.ax_store.proofs.ContentLemmas.{find-entry}
 use Rattle.ax_store.proofs.PrefixLemmas.{before_not}
 
 abbrev pub Key : Type 0
@@ -58,10 +59,6 @@ insert-put (e ∷ es) k c = go (bytes_cmp k e.0) (insert-put es k c)
     go Less ih = refl
     go Equal ih = refl
     go Greater ih = ap (λ l. e ∷ l) ih
-
-find-entry : (es : Layer) (q : Text) → find bytes_cmp q es ≡ entry_at es q
-find-entry [] q = refl
-find-entry (e ∷ es) q = ap (cond (is_eq (bytes_cmp q e.0)) (Some e.1)) (find-entry es q)
 
 pub entry-insert : (es : Layer) (k : Text) (c : Change) (q : Text) → entry_at (insert_entry bytes_cmp es k c) q ≡ cond (is_at (bytes_cmp q) k) (Some c) (entry_at es q)
 entry-insert es k c q = ap (λ l. entry_at l q) (insert-put es k c) ∙ sym (find-entry (put bytes_cmp k c es) q) ∙ find-put bytes_cmp nat_list_cmp_total q k c es

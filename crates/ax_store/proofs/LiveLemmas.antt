@@ -15,7 +15,7 @@ use Rattle.ax_store.specs.declared.change.Change.{Change}
 use Rattle.ax_store.specs.declared.change.Change.TheVariants.{Put, Delete}
 use Rattle.ax_store.specs.Held.{Text, Content, bytes_cmp, begins}
 use Rattle.ax_store.specs.Entries.{Layer, IsRising, entry_at, live}
-use Rattle.ax_store.specs.Layers.{content_of, newest, shown}
+use Rattle.ax_store.specs.Layers.{content_of, newest_of, shown}
 use Rattle.ax_store.proofs.ContentLemmas.{get_content}
 use Rattle.ax_store.proofs.MergeLemmas.{Above, none_above, above_more}
 
@@ -58,11 +58,11 @@ find-live q ((j, Delete) ∷ es) h = go (is_eq (bytes_cmp q j)) refl (find-live 
     go true e ih = none_live q es (subst (λ (k : Text). Above k es) (sym (exact_bytes q j (is_eq-Equal (bytes_cmp q j) e))) h.0)
     go false e ih = ih
 
--- a layer that has the newest entries of the keys with a prefix
-pub cells_are : (prefix : Text) (layers : List Layer) (one : Layer) → IsRising one → ((q : Text) → entry_at one q ≡ cond (begins prefix q) (newest layers q) None)
+-- a layer that has the newest_of entries of the keys with a prefix
+pub cells_are : (prefix : Text) (layers : List Layer) (one : Layer) → IsRising one → ((q : Text) → entry_at one q ≡ cond (begins prefix q) (newest_of layers q) None)
     → live one ≡ entries (retain_keys (content_of layers) (begins prefix))
 cells_are prefix layers one rising h = same_entries bytes_cmp nat_list_cmp_total exact_bytes _ _ (sorted-live one rising) (entries_sorted (retain_keys (content_of layers) (begins prefix)))
-    (λ q. find-live q one rising ∙ ap shown (h q) ∙ go (begins prefix q) (newest layers q)
+    (λ q. find-live q one rising ∙ ap shown (h q) ∙ go (begins prefix q) (newest_of layers q)
     ∙ ap (λ o. cond (begins prefix q) o None) (sym (get_content layers q))
     ∙ sym (get-retain_keys (content_of layers) (begins prefix) q (λ x t. ap (begins prefix) (sym (exact_bytes q x t))))
     ∙ get-entries (retain_keys (content_of layers) (begins prefix)) q)

@@ -1,5 +1,5 @@
 -- What a merge has: the newer entry of each key, in order.
-use Rattle.std.proofs.Common.{◌≡◌, ◌∙◌, ℕ, ◌+◌, ◌≤◌, Bool, true, false, cond, List, [], ◌∷◌, Option, Some, None, refl, sym, ap, ap₂, subst, arith, map, length}
+use Rattle.std.proofs.Common.{◌≡◌, ◌∙◌, ℕ, ◌+◌, ◌≤◌, Bool, true, false, cond, List, [], ◌∷◌, Option, Some, None, refl, sym, ap, ap₂, subst, arith, map, length, get_or}
 use Rattle.std.specs.Ordering.{nat_cmp, eq_by_cmp, is_eq, match_ordering, ordering_reverse}
 use Rattle.std.specs.declared.cmp.Ordering.{Ordering}
 use Rattle.std.specs.declared.cmp.Ordering.TheVariants.{Less, Equal, Greater}
@@ -12,8 +12,8 @@ use Rattle.std.specs.BTreeMap.{is_at}
 use Rattle.std.proofs.lemmas.Map.Lookups.{exact_bytes}
 use Rattle.ax_store.specs.declared.change.Change.{Change}
 use Rattle.ax_store.specs.Held.{Text, Content, bytes_cmp}
-use Rattle.ax_store.specs.Entries.{Layer, IsRising, entry_at, into, merged}
-use Rattle.ax_store.specs.Layers.{or_below, over}
+use Rattle.ax_store.specs.Entries.{Layer, IsRising, entry_at, into, merged, or_below}
+use Rattle.ax_store.specs.Layers.{content_of, merged_first, over}
 use Rattle.ax_store.proofs.ContentLemmas.{two_in_one}
 
 laws : IsTotalOrder bytes_cmp
@@ -124,3 +124,28 @@ entry-merged (x ∷ newer) older a b q = entry-into x newer a.0 q (λ ys r. entr
 
 pub over_merged : (newer older : Layer) → IsRising newer → IsRising older → (below : Content) → over (merged newer older) below ≡ over newer (over older below)
 over_merged newer older a b below = two_in_one newer older (merged newer older) below (entry-merged newer older a b)
+
+-- ---- the two newest of some layers
+
+pub content_first : (layers : List Layer) (a b : Layer) → 2 ≤ length layers → a ≡ get_or layers 0 a → b ≡ get_or layers 1 b → IsRising a → IsRising b → content_of (merged_first layers) ≡ content_of layers
+content_first [] a b le e f r s = absurd (omega arith)
+content_first (x ∷ []) a b le e f r s = absurd (omega arith)
+content_first (x ∷ (y ∷ layers)) a b le e f r s = over_merged x y (subst IsRising e r) (subst IsRising f s) (content_of layers)
+
+pub length_first : (layers : List Layer) → 2 ≤ length layers → length (merged_first layers) + 1 ≡ length layers
+length_first [] le = absurd (omega arith)
+length_first (x ∷ []) le = absurd (omega arith)
+length_first (x ∷ (y ∷ layers)) le = omega arith
+
+-- ---- the parts of layers under one another
+
+-- a part that was merged under what was found so far
+pub joined : (b : Bool) (f a r : Option Change) → or_below (or_below f (cond b a None)) (cond b r None) ≡ or_below f (cond b (or_below a r) None)
+joined true (Some c) a r = refl
+joined true None a r = refl
+joined false (Some c) a r = refl
+joined false None a r = refl
+
+pub begun : (b : Bool) (a r : Option Change) → or_below (cond b a None) (cond b r None) ≡ cond b (or_below a r) None
+begun true a r = refl
+begun false a r = refl

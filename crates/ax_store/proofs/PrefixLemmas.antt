@@ -1,5 +1,5 @@
 -- Keys that begin with a prefix stand together.
-use Rattle.std.proofs.Common.{◌≡◌, ◌∙◌, ℕ, ◌+◌, ◌-◌, ◌<◌, ◌≤◌, zero, suc, Bool, true, false, ◌&&◌, cond, List, [], ◌∷◌, ◌++◌, refl, sym, ap, ap₂, subst, arith, map, length, take, drop, true≢false, get_or}
+use Rattle.std.proofs.Common.{◌≡◌, ◌∙◌, ℕ, ◌+◌, ◌-◌, ◌<◌, ◌≤◌, zero, suc, Bool, true, false, ◌&&◌, cond, List, [], ◌∷◌, ◌++◌, Some, None, refl, sym, ap, ap₂, subst, arith, map, length, take, drop, true≢false, get_or}
 use Rattle.std.specs.Ordering.{nat_cmp, is_lt, ordering_then}
 use Rattle.std.specs.declared.cmp.Ordering.{Ordering}
 use Rattle.std.specs.declared.cmp.Ordering.TheVariants.{Less, Equal, Greater}
@@ -19,9 +19,12 @@ use Rattle.std.specs.List.Sorted.{IsPartitionedBy}
 use Rattle.std.proofs.lemmas.Map.Keys.{Less-from_sorted}
 use Rattle.std.proofs.Math.ListN.{get_or-map, length-map}
 use Rattle.std.proofs.lemmas.Bool.Decides.{nat_tests}
+use Rattle.std.specs.FinMap.Entries.{find-where_key}
+use Rattle.std.proofs.lemmas.Map.Lookups.{exact_bytes}
 use Rattle.ax_store.specs.declared.change.Change.{Change}
 use Rattle.ax_store.specs.Held.{Text, bytes_cmp, begins}
-use Rattle.ax_store.specs.Entries.{Layer, IsRising, part, is_before}
+use Rattle.ax_store.proofs.ContentLemmas.{find-entry}
+use Rattle.ax_store.specs.Entries.{entry_at, Layer, IsRising, part, is_before}
 
 nat_apart : (a b : ℕ) (r : Ordering) → r ≡ nat_cmp a b → (r ≡ Equal → ⊥) → nat_eq b a ≡ false
 nat_apart a b Less e other = grind (arith, nat_tests, ranked a b Less e)
@@ -160,3 +163,26 @@ one_more prefix found e es h = append_assoc found (e ∷ []) (part prefix es) �
 pub rising_tail : (e : Text × Change) (es : Layer) → IsRising (e ∷ es) → IsRising es
 unfolding IsStrictlySortedBy
 rising_tail e es h = h.1
+
+-- ---- the part of a layer
+
+above_part : (k prefix : Text) (es : Layer) → Above k es → Above k (part prefix es)
+above_part k prefix [] h = tt
+above_part k prefix (e ∷ es) h = go (begins prefix e.0) (above_part k prefix es h.1)
+  where
+    go : (b : Bool) → Above k (part prefix es) → Above k (cond b (e ∷ part prefix es) (part prefix es))
+    go true ih = (h.0, ih)
+    go false ih = ih
+
+pub rising-part : (prefix : Text) (es : Layer) → IsRising es → IsRising (part prefix es)
+unfolding IsStrictlySortedBy
+rising-part prefix [] h = tt
+rising-part prefix (e ∷ es) h = go (begins prefix e.0) (rising-part prefix es h.1)
+  where
+    go : (b : Bool) → IsRising (part prefix es) → IsRising (cond b (e ∷ part prefix es) (part prefix es))
+    go true ih = (above_part e.0 prefix es h.0, ih)
+    go false ih = ih
+
+pub entry-part : (prefix : Text) (es : Layer) (q : Text) → entry_at (part prefix es) q ≡ cond (begins prefix q) (entry_at es q) None
+entry-part prefix es q = sym (find-entry (part prefix es) q) ∙ find-where_key bytes_cmp (begins prefix) q (λ x t. ap (begins prefix) (sym (exact_bytes q x t))) es
+    ∙ ap (λ o. cond (begins prefix q) o None) (find-entry es q)

@@ -23,6 +23,11 @@ IsRising layer = IsStrictlySortedBy bytes_cmp (map (λ e. e.0) layer)
 abbrev pub entry_at : Layer → Text → Option Change
 entry_at layer key = lookup (is_at (bytes_cmp key)) layer
 
+-- what the newer of two layers says, and where it says nothing what the older one does
+abbrev pub or_below : Option Change → Option Change → Option Change
+or_below (Some c) below = Some c
+or_below None below = below
+
 -- the entries of which the keys begin with a prefix
 abbrev pub part : Text → Layer → Layer
 part prefix layer = filter (λ e. begins prefix e.0) layer
@@ -46,6 +51,10 @@ abbrev pub live : Layer → List (Text × Text)
 live [] = []
 live ((key, Put value) ∷ es) = (key, value) ∷ live es
 live ((key, Delete) ∷ es) = live es
+
+-- a delete of the key of each value
+abbrev pub deletes : List (Text × Text) → Layer
+deletes cells = map (λ c. (c.0, Delete)) cells
 
 -- the entries of a map whose keys lie in vectors
 abbrev pub texts : List (Vec ℕ Global × Change) → Layer

@@ -5,7 +5,7 @@ use Rattle.ax_store.specs.declared.change.Change.{Change}
 use Rattle.ax_store.specs.declared.change.Change.TheVariants.{Put, Delete}
 use Rattle.ax_store.specs.declared.layers.Layers.{Layers}
 use Rattle.ax_store.specs.Held.{Text, Content}
-use Rattle.ax_store.specs.Entries.{Layer, entry_at}
+use Rattle.ax_store.specs.Entries.{Layer, entry_at, merged, or_below}
 
 -- an entry over what is below it
 abbrev pub changed : Text → Change → Content → Content
@@ -27,13 +27,14 @@ abbrev pub layers_of : Layers → List Layer
 layers_of s = s.memtable ∷ s.runs.items
 
 -- the newest entry of a key, where there is one
-abbrev pub or_below : Option Change → Option Change → Option Change
-or_below (Some c) below = Some c
-or_below None below = below
+abbrev pub newest_of : List Layer → Text → Option Change
+newest_of [] key = None
+newest_of (layer ∷ layers) key = or_below (entry_at layer key) (newest_of layers key)
 
-abbrev pub newest : List Layer → Text → Option Change
-newest [] key = None
-newest (layer ∷ layers) key = or_below (entry_at layer key) (newest layers key)
+-- the two newest of some layers as one
+abbrev pub merged_first : List Layer → List Layer
+merged_first (newer ∷ (older ∷ layers)) = merged newer older ∷ layers
+merged_first layers = layers
 
 -- the value that an entry leaves
 abbrev pub shown : Option Change → Option Text

@@ -72,7 +72,8 @@ impl Memtable {
 
     // Copies of the entries of which the keys begin with a prefix. No other entry is looked at, but for the one behind them.
     pub(crate) fn part(&self, alloc: Global, prefix: &[u8]) -> Result<Vec<Entry>, NoMemory>
-        ensures { IfOk result (λ v. v.items ≡ part prefix.now self.now) }
+        ensures part { IfOk result (λ v. v.items ≡ part prefix.now self.now) }
+        ensures rising { IfOk result (λ v. IsRising v.items) }
     {
         let Ok(from) = Vec::from_slice(alloc, prefix) else {
             return Err(NoMemory);
