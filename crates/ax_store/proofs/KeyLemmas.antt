@@ -64,16 +64,18 @@ pub entry-insert : (es : Layer) (k : Text) (c : Change) (q : Text) → entry_at 
 entry-insert es k c q = ap (λ l. entry_at l q) (insert-put es k c) ∙ sym (find-entry (put bytes_cmp k c es) q) ∙ find-put bytes_cmp nat_list_cmp_total q k c es
     ∙ ap (cond (is_at (bytes_cmp q) k) (Some c)) (find-entry es q)
 
-pub length-insert : (es : Layer) (k : Text) (c : Change) → (length (insert_entry bytes_cmp es k c) ≤ length es + 1) × (1 ≤ length (insert_entry bytes_cmp es k c))
-length-insert [] k c = (omega arith, omega arith)
+abbrev pub Grows : ℕ → ℕ → Type 0
+Grows old new = (1 ≤ new) × (old ≤ new) × (new ≤ old + 1)
+
+pub length-insert : (es : Layer) (k : Text) (c : Change) → Grows (length es) (length (insert_entry bytes_cmp es k c))
+length-insert [] k c = (omega arith, omega arith, omega arith)
 length-insert (e ∷ es) k c = go (bytes_cmp k e.0) (length-insert es k c)
   where
-    go : (r : Ordering) → (length (insert_entry bytes_cmp es k c) ≤ length es + 1) × (1 ≤ length (insert_entry bytes_cmp es k c))
-        → (length (match_ordering r ((k, c) ∷ (e ∷ es)) ((e.0, c) ∷ es) (e ∷ insert_entry bytes_cmp es k c)) ≤ length (e ∷ es) + 1)
-        × (1 ≤ length (match_ordering r ((k, c) ∷ (e ∷ es)) ((e.0, c) ∷ es) (e ∷ insert_entry bytes_cmp es k c)))
-    go Less ih = (omega arith, omega arith)
-    go Equal ih = (omega arith, omega arith)
-    go Greater ih = (omega arith, omega arith)
+    go : (r : Ordering) → Grows (length es) (length (insert_entry bytes_cmp es k c))
+        → Grows (length (e ∷ es)) (length (match_ordering r ((k, c) ∷ (e ∷ es)) ((e.0, c) ∷ es) (e ∷ insert_entry bytes_cmp es k c)))
+    go Less ih = (omega arith, omega arith, omega arith)
+    go Equal ih = (omega arith, omega arith, omega arith)
+    go Greater ih = (omega arith, omega arith, omega arith)
 
 -- ---- the entries from a prefix on
 

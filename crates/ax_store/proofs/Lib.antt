@@ -1,4 +1,5 @@
 pub mod ContentLemmas
+pub mod DeleteLemmas
 pub mod KeyLemmas
 pub mod LiveLemmas
 pub mod MergeLemmas

@@ -1,5 +1,5 @@
 -- What a store holds, as its users see it.
-use Rattle.std.specs.Prelude.{◌≡◌, ℕ, Bool, List, refl, ◌+◌, ◌==◌, nat_lt, if◌then◌else◌}
+use Rattle.std.specs.Prelude.{◌≡◌, ◌≤◌, ℕ, Bool, List, refl, ◌+◌, ◌==◌, nat_lt, if◌then◌else◌}
 use Rattle.std.specs.Bool.{nat_eq}
 use Rattle.std.specs.Coded.{Coded, code_by, coded×, coded_ℕ, coded_list}
 use Rattle.std.specs.Ordering.{nat_cmp}
@@ -43,7 +43,17 @@ pair_of c = (c.key, c.value)
 abbrev pub runs_after_flush : ℕ → ℕ → ℕ
 runs_after_flush entries runs = if entries == 0 then runs else (if nat_lt runs 4 then runs + 1 else 1)
 
+-- how many entries the memtable has before an entry goes in: a full one is empty by then
+abbrev pub before_entry : Held → ℕ
+before_entry h = if h.memtable == h.most then 0 else h.memtable
+
 -- an entry went in, behind a flush where the memtable was full
 pub record Entered (old new : Held) : Type 0 where
+  pub some : 1 ≤ new.memtable
+  pub least : before_entry old ≤ new.memtable
+  pub most : new.memtable ≤ before_entry old + 1
   pub runs : new.runs ≡ (if old.memtable == old.most then runs_after_flush old.memtable old.runs else old.runs)
-  pub full : old.memtable ≡ old.most → new.memtable ≡ 1
+
+-- how many runs there are when a part of the map was deleted over so many runs: four become one, and deletes are one more
+abbrev pub runs_after_delete : Content → ℕ → ℕ
+runs_after_delete found runs = (if runs == 4 then 1 else runs) + (if map.len found == 0 then 0 else 1)

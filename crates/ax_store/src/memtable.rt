@@ -1,8 +1,8 @@
 //! The newest layer, in which entries are changed in place.
-ghost use Rattle.std.specs.Prelude.{◌≡◌, [], ◌∷◌, ◌<◌, ◌≤◌, ◌^◌, ◌+◌, ◌==◌, length, option_map, IfOk, OnOk, OnErr, MatchOption, false};
-ghost use Rattle.std.specs.BTreeMap.{insert_entry};
+ghost use Rattle.std.specs.Prelude.{◌≡◌, [], ◌∷◌, ◌<◌, ◌≤◌, ◌^◌, ◌+◌, if◌then◌else◌, Some, length, option_map, IfOk, OnOk, OnErr, MatchOption, false};
+ghost use Rattle.std.specs.BTreeMap.{is_at};
 ghost use Rattle.std.specs.List.{All};
-ghost use Rattle.ax_store.specs.Held.{bytes_cmp};
+ghost use Rattle.ax_store.specs.Held.{Text, bytes_cmp};
 ghost use Rattle.ax_store.specs.Entries.{entry_at, IsRising, is_before, part, texts};
 
 use crate::change::{Change, Entry};
@@ -52,7 +52,10 @@ impl Memtable {
 
     // Puts an entry in, in place of one of the same key. After `NoMemory` the memtable is as before.
     pub(crate) fn insert(&mut self, key: Vec<u8>, change: Change) -> Result<(), NoMemory>
-        ensures ok { OnOk result (self.new ≡ insert_entry bytes_cmp self.old key.items change) }
+        ensures ok { OnOk result ((q : Text) → entry_at self.new q ≡ (if is_at (bytes_cmp q) key.items then Some change else entry_at self.old q)) }
+        ensures some { OnOk result (1 ≤ length self.new) }
+        ensures least { length self.old ≤ length self.new }
+        ensures most { length self.new ≤ length self.old + 1 }
         ensures err { OnErr result (self.new ≡ self.old) }
     {
         match self.entries.insert(key, change) {
