@@ -1,7 +1,6 @@
 -- The content of layers, key by key.
 use Rattle.std.proofs.Common.{◌≡◌, ◌∙◌, ℕ, Bool, true, false, cond, List, [], ◌∷◌, Option, Some, None, refl, sym, ap, ap₂, subst, arith, map}
 use Rattle.std.specs.Ordering.{nat_cmp, eq_by_cmp, is_eq}
-use Rattle.std.specs.Cmp.{eq_by_cmp_equiv}
 use Rattle.std.specs.Cmp.Lexicographic.{slice_cmp, nat_list_cmp_total}
 use Rattle.std.specs.Map.{lookup}
 use Rattle.std.specs.BTreeMap.{is_at}
@@ -56,10 +55,10 @@ by_changed true Delete rest below = refl
 by_changed false c rest below = refl
 
 -- a layer in which one entry changed
-pub one_changed : (old new : Layer) (k : Text) (c : Change) (below : Content) → ((q : Text) → entry_at new q ≡ cond (is_at (bytes_cmp k) q) (Some c) (entry_at old q))
+pub one_changed : (old new : Layer) (k : Text) (c : Change) (below : Content) → ((q : Text) → entry_at new q ≡ cond (is_at (bytes_cmp q) k) (Some c) (entry_at old q))
     → over new below ≡ changed k c (over old below)
 one_changed old new k c below h = same_content _ _ (λ q.
-    get_over new below q ∙ ap (λ o. by_entry o (get below q)) (h q ∙ ap (λ b. cond b (Some c) (entry_at old q)) ((eq_by_cmp_equiv nat_list_cmp_total).symm k q))
+    get_over new below q ∙ ap (λ o. by_entry o (get below q)) (h q)
     ∙ by_changed (eq_by_cmp bytes_cmp q k) c (entry_at old q) (get below q)
     ∙ sym (changed_at k c (over old below) q ∙ ap (cond (eq_by_cmp bytes_cmp q k) (by_entry (Some c) None)) (get_over old below q)))
 

@@ -63,7 +63,7 @@ unfolding erased
 over-deletes m p = same_content _ _ (λ q.
     get_over (deletes (entries (retain_keys m p))) m q
     ∙ ap (λ o. by_entry o (get m q)) (entry-deletes (entries (retain_keys m p)) q
-        ∙ ap erased (sym (get-entries (retain_keys m p) q) ∙ get-retain_keys m p q (λ x t. ap p (sym (exact_bytes q x t)))))
+    ∙ ap erased (sym (get-entries (retain_keys m p) q) ∙ get-retain_keys m p q (λ x t. ap p (sym (exact_bytes q x t)))))
     ∙ go (p q) (get m q)
     ∙ sym (get-retain_keys m (λ k. not (p k)) q (λ x t. ap (λ k. not (p k)) (sym (exact_bytes q x t)))))
   where

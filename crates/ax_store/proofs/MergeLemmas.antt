@@ -98,10 +98,12 @@ entry-into x newer a q h (y ∷ ys) r = go (bytes_cmp x.0 y.0) refl (entry-into 
     first : (ys : Layer) (b : Bool) → entry_at (merged newer ys) q ≡ or_below (entry_at newer q) (entry_at ys q) → cond b (Some x.1) (entry_at (merged newer ys) q) ≡ or_below (cond b (Some x.1) (entry_at newer q)) (entry_at ys q)
     first ys true e = refl
     first ys false e = e
+
     tied : (k : Text) → k ≡ x.0 → (b : Bool) → is_at (bytes_cmp q) x.0 ≡ b → or_below (cond (is_at (bytes_cmp q) x.0) (Some x.1) (entry_at newer q)) (entry_at ys q)
         ≡ or_below (cond (is_at (bytes_cmp q) x.0) (Some x.1) (entry_at newer q)) (cond (is_at (bytes_cmp q) k) (Some y.1) (entry_at ys q))
     tied k e true f = rw f refl
     tied k e false f = rw (e, f) refl
+
     later : (s : Ordering) → bytes_cmp q y.0 ≡ s → bytes_cmp y.0 x.0 ≡ Less → entry_at (into x (merged newer) ys) q ≡ or_below (entry_at (x ∷ newer) q) (entry_at ys q)
         → cond (is_eq (bytes_cmp q y.0)) (Some y.1) (entry_at (into x (merged newer) ys) q) ≡ or_below (entry_at (x ∷ newer) q) (cond (is_eq (bytes_cmp q y.0)) (Some y.1) (entry_at ys q))
     later Less s below ih = rw s ih
@@ -109,6 +111,7 @@ entry-into x newer a q h (y ∷ ys) r = go (bytes_cmp x.0 y.0) refl (entry-into 
     later Equal s below ih =
         let less : bytes_cmp q x.0 ≡ Less = laws.congr q y.0 x.0 s ∙ below in
         rw (s, none_above q (x ∷ newer) (less, above_more q x.0 less newer a)) refl
+
     go : (o : Ordering) → bytes_cmp x.0 y.0 ≡ o → entry_at (into x (merged newer) ys) q ≡ or_below (entry_at (x ∷ newer) q) (entry_at ys q)
         → entry_at (match_ordering o (x ∷ merged newer (y ∷ ys)) (x ∷ merged newer ys) (y ∷ into x (merged newer) ys)) q ≡ or_below (entry_at (x ∷ newer) q) (entry_at (y ∷ ys) q)
     go Less e ih = first (y ∷ ys) (is_at (bytes_cmp q) x.0) (h (y ∷ ys) r)

@@ -55,8 +55,10 @@ after_not (p ∷ ps) (k ∷ ks) (l ∷ ls) h before less = go (nat_cmp k p) refl
     either : (b c : Bool) → c ≡ false → (b && c) ≡ false
     either true c f = f
     either false c f = refl
+
     above : (k < l) → (p ≤ k) → nat_eq p l ≡ false
     above a b = grind (arith, nat_tests)
+
     go : (r : Ordering) → nat_cmp k p ≡ r → (s : Ordering) → nat_cmp k l ≡ s → is_lt (ordering_then r (bytes_cmp ks ps)) ≡ false → ordering_then s (bytes_cmp ks ls) ≡ Less
         → (begins ps ks ≡ false → is_lt (bytes_cmp ks ps) ≡ false → bytes_cmp ks ls ≡ Less → begins ps ls ≡ false) → begins (p ∷ ps) (l ∷ ls) ≡ false
     go Less e s f before less next = absurd (true≢false before)
@@ -114,8 +116,8 @@ filter-append p (x ∷ xs) ys = go (p x) (filter-append p xs ys)
 pub part_from : (prefix : Text) (xs : Layer) (start : ℕ) → start ≤ length xs → AllWithin (λ e. is_before prefix e ≡ true) xs 0 start → part prefix (drop start xs) ≡ part prefix xs
 part_from prefix xs start le before =
     let none : part prefix (take start xs) ≡ [] = none_before prefix (take start xs) (λ i d lt.
-        let here : i < start = omega (arith, simp length-take at lt) in
-        rw (get_or-take start xs i d here) (before i d (omega arith) here)) in
+    let here : i < start = omega (arith, simp length-take at lt) in
+    rw (get_or-take start xs i d here) (before i d (omega arith) here)) in
     ap (λ l. l ++ part prefix (drop start xs)) (sym none) ∙ sym (filter-append (λ e. begins prefix e.0) (take start xs) (drop start xs)) ∙ ap (part prefix) (take-append-drop start xs)
 
 is_lt-Less : (r : Ordering) → is_lt r ≡ true → r ≡ Less

@@ -54,6 +54,7 @@ rises es q rising = IsNonDecreasingBy-from_default (λ e. ordering_index (bytes_
   where
     split : (i j : ℕ) → i ≤ j → (i ≡ j) ⊎ (i < j)
     split i j le = eq-or-lt_of_le le
+
     at_places : (i j : ℕ) → j < length es → (i ≡ j) ⊎ (i < j) → ordering_index (bytes_cmp (get_or es i no_entry).0 q) ≤ ordering_index (bytes_cmp (get_or es j no_entry).0 q)
     at_places i j lt (inl same) = let le : ordering_index (bytes_cmp (get_or es j no_entry).0 q) ≤ ordering_index (bytes_cmp (get_or es j no_entry).0 q) = omega arith in
         subst (λ (k : ℕ). ordering_index (bytes_cmp (get_or es k no_entry).0 q) ≤ ordering_index (bytes_cmp (get_or es j no_entry).0 q)) (sym same) le
@@ -70,7 +71,9 @@ not_found es q i rising parts =
   where
     place : (j : ℕ) (e : Text × Change) → slice_get es j ≡ Some e → j < length es
     place j e at = slice_get_within es j e at
+
     before : (j : ℕ) (e : Text × Change) → j < i → slice_get es j ≡ Some e → bytes_cmp q e.0 ≡ Greater
     before j e lt at = flipped e.0 q Less (subst (λ (x : Text × Change). bytes_cmp x.0 q ≡ Less) (get_or_from_slice_get es j e no_entry at) ((parts (rises es q rising)).0 j no_entry (omega arith) lt))
+
     after : (e : Text × Change) → slice_get es i ≡ Some e → bytes_cmp q e.0 ≡ Less
     after e at = flipped e.0 q Greater (subst (λ (x : Text × Change). bytes_cmp x.0 q ≡ Greater) (get_or_from_slice_get es i e no_entry at) ((parts (rises es q rising)).1 i no_entry (omega arith) (place i e at)))

@@ -87,7 +87,11 @@ impl Memtable {
 }
 
 // Copies of the first entries, as long as their keys begin with a prefix.
-fn copy_first(alloc: Global, rest: &mut Range<'_, Vec<u8>, Change>, prefix: &[u8]) -> Result<Vec<Entry>, NoMemory>
+fn copy_first(
+    alloc: Global,
+    rest: &mut Range<'_, Vec<u8>, Change>,
+    prefix: &[u8],
+) -> Result<Vec<Entry>, NoMemory>
     requires rising { IsRising (texts rest.old) }
     requires from { All (λ e. is_before prefix.now e ≡ false) (texts rest.old) }
     ensures { IfOk result (λ v. v.items ≡ part prefix.now (texts rest.old)) }

@@ -1,7 +1,7 @@
 //! The store.
 ghost use Rattle.std.specs.Prelude.{◌≡◌, ◌≤◌, ◌<◌, ◌+◌, ◌==◌, if◌then◌else◌, min, not, length, map as each, IfOk, OnOk, OnErr};
 ghost use Rattle.std.specs.FinMap as map;
-ghost use Rattle.ax_store.specs.Held.{begins, pair_of, runs_after_delete, runs_after_flush, Entered};
+ghost use Rattle.ax_store.specs.Held.{before_entry, begins, pair_of, runs_after_delete, runs_after_flush, Entered};
 ghost use Rattle.ax_store.specs.Entries.{deletes, IsRising};
 ghost use Rattle.ax_store.specs.Layers.{changed, over};
 
@@ -102,10 +102,22 @@ impl RunStore {
         let Ok(key) = Vec::from_slice(self.alloc, key) else {
             return Err(NoMemory);
         };
-        if self.memtable_len() == self.most {
-            self.flush()?;
-        }
+        self.make_room()?;
         self.insert(key, change)
+    }
+
+    // A full memtable becomes a run.
+    fn make_room(&mut self) -> Result<(), NoMemory>
+        ensures content { self.new.content ≡ self.old.content }
+        ensures memtable { OnOk result (self.new.memtable ≡ before_entry self.old) }
+        ensures room { OnOk result (self.new.memtable < self.new.most) }
+        ensures runs { OnOk result (self.new.runs ≡ (if self.old.memtable == self.old.most then runs_after_flush self.old.memtable self.old.runs else self.old.runs)) }
+        ensures most { self.new.most ≡ self.old.most }
+    {
+        if self.memtable_len() < self.most {
+            return Ok(());
+        }
+        self.flush()
     }
 
     // A new entry in the memtable. After `NoMemory` nothing has changed.
@@ -113,7 +125,8 @@ impl RunStore {
         requires { self.old.memtable < self.old.most }
         ensures ok { OnOk result (self.new.content ≡ changed key.items change self.old.content) }
         ensures some { OnOk result (1 ≤ self.new.memtable) }
-        ensures more { self.new.memtable ≤ self.old.memtable + 1 }
+        ensures least { self.old.memtable ≤ self.new.memtable }
+        ensures most_more { self.new.memtable ≤ self.old.memtable + 1 }
         ensures runs { self.new.runs ≡ self.old.runs }
         ensures most { self.new.most ≡ self.old.most }
         ensures err { OnErr result (self.new ≡ self.old) }
@@ -139,11 +152,23 @@ impl RunStore {
         ensures most { self.new.most ≡ self.old.most }
     {
         self.flush()?;
-        if self.runs() == 4 {
-            self.compact()?;
-        }
+        self.leave_place()?;
         let found = self.scan_prefix(prefix)?;
         self.push_deletes(found)
+    }
+
+    // Four runs become one.
+    fn leave_place(&mut self) -> Result<(), NoMemory>
+        ensures content { self.new.content ≡ self.old.content }
+        ensures memtable { self.new.memtable ≡ self.old.memtable }
+        ensures few { OnOk result (self.new.runs < 4) }
+        ensures runs { OnOk result (self.new.runs ≡ (if self.old.runs == 4 then 1 else self.old.runs)) }
+        ensures most { self.new.most ≡ self.old.most }
+    {
+        if self.runs() < 4 {
+            return Ok(());
+        }
+        self.compact()
     }
 
     // Puts a run of deletes of the keys of some cells above the others, where there are any.
@@ -191,7 +216,7 @@ impl RunStore {
         ensures bound { result ≤ self.now.most }
         ensures some { 1 ≤ self.now.most }
     {
-        self.layers.memtable.len() as u32
+        self.layers.memtable.len().min(self.most as usize) as u32
     }
 
     /// How many runs there are.
