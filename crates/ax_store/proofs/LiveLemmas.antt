@@ -1,11 +1,11 @@
 -- The cells of a layer over nothing, as a map's entries.
-use Rattle.std.proofs.Common.{◌≡◌, ◌∙◌, ℕ, Bool, true, false, cond, List, [], ◌∷◌, Option, Some, None, refl, sym, ap, subst, map}
+use Rattle.std.proofs.Common.{◌≡◌, ◌∙◌, ℕ, Bool, true, false, cond, List, [], ◌∷◌, ◌++◌, ◌≤◌, ◌+◌, Option, Some, None, refl, sym, ap, subst, map, length, length-append, arith}
 use Rattle.std.specs.Prelude.{◌&&◌}
 use Rattle.std.specs.Ordering.{nat_cmp, is_lt, is_eq, eq_by_cmp}
 use Rattle.std.specs.declared.cmp.Ordering.{Ordering}
 use Rattle.std.specs.declared.cmp.Ordering.TheVariants.{Less, Equal, Greater}
 use Rattle.std.specs.Cmp.Lexicographic.{nat_list_cmp_total}
-use Rattle.std.specs.List.{AllByRecursion}
+use Rattle.std.specs.List.{AllByRecursion, filter}
 use Rattle.std.specs.List.Sorted.{IsStrictlySortedBy}
 use Rattle.std.specs.FinMap.{entries, entries_sorted, get, get-entries, get-retain_keys, retain_keys, slice_cmp-IsAntisymmetric, nat_cmp-IsAntisymmetric}
 use Rattle.std.specs.FinMap.Entries.{find, is_sorted, below_all, same_entries}
@@ -14,9 +14,9 @@ use Rattle.std.proofs.lemmas.Map.Lookups.{exact_bytes}
 use Rattle.ax_store.specs.declared.change.Change.{Change}
 use Rattle.ax_store.specs.declared.change.Change.TheVariants.{Put, Delete}
 use Rattle.ax_store.specs.Held.{Text, Content, bytes_cmp, begins}
-use Rattle.ax_store.specs.Entries.{Layer, IsRising, entry_at, live}
+use Rattle.ax_store.specs.Entries.{Layer, IsRising, entry_at, is_put, live, or_below}
 use Rattle.ax_store.specs.Layers.{content_of, newest_of, shown}
-use Rattle.ax_store.proofs.ContentLemmas.{get_content}
+use Rattle.ax_store.proofs.ContentLemmas.{get_content, same_content}
 use Rattle.ax_store.proofs.MergeLemmas.{Above, none_above, above_more}
 
 both : (a b : Bool) → T a → T b → T (a && b)
@@ -70,3 +70,27 @@ cells_are prefix layers one rising h = same_entries bytes_cmp nat_list_cmp_total
     go : (b : Bool) (o : Option Change) → shown (cond b o None) ≡ cond b (shown o) None
     go true o = refl
     go false o = refl
+
+-- ---- a run with no run below needs no deletes
+
+live-puts : (es : Layer) → live (filter is_put es) ≡ live es
+live-puts [] = refl
+live-puts ((j, Put v) ∷ es) = ap (λ l. (j, v) ∷ l) (live-puts es)
+live-puts ((j, Delete) ∷ es) = live-puts es
+
+shown_alone : (o : Option Change) → shown (or_below o None) ≡ shown o
+shown_alone (Some c) = refl
+shown_alone None = refl
+
+get_alone : (es : Layer) → IsRising es → (q : Text) → get (content_of (es ∷ [])) q ≡ find bytes_cmp q (live es)
+get_alone es rising q = get_content (es ∷ []) q ∙ shown_alone (entry_at es q) ∙ sym (find-live q es rising)
+
+pub content_alone : (es : Layer) → IsRising es → IsRising (filter is_put es) → content_of (filter is_put es ∷ []) ≡ content_of (es ∷ [])
+content_alone es rising puts = same_content _ _ (λ q. get_alone (filter is_put es) puts q ∙ ap (find bytes_cmp q) (live-puts es) ∙ sym (get_alone es rising q))
+
+-- the only one of some runs
+pub content_only : (rest runs : List Layer) (run : Layer) → runs ≡ rest ++ run ∷ [] → length runs ≤ 1 → IsRising run → IsRising (filter is_put run) → content_of (rest ++ filter is_put run ∷ []) ≡ content_of runs
+content_only [] runs run is le rising puts = content_alone run rising puts ∙ ap content_of (sym is)
+content_only (x ∷ rest) runs run is le rising puts =
+    let n : length runs ≡ length (x ∷ rest) + 1 = ap (λ (l : List Layer). length l) is ∙ length-append (x ∷ rest) (run ∷ []) in
+    absurd (omega arith)

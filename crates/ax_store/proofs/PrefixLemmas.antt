@@ -166,24 +166,27 @@ pub rising_tail : (e : Text × Change) (es : Layer) → IsRising (e ∷ es) → 
 unfolding IsStrictlySortedBy
 rising_tail e es h = h.1
 
--- ---- the part of a layer
+-- ---- some entries of a layer
 
-above_part : (k prefix : Text) (es : Layer) → Above k es → Above k (part prefix es)
-above_part k prefix [] h = tt
-above_part k prefix (e ∷ es) h = go (begins prefix e.0) (above_part k prefix es h.1)
+above-filter : (k : Text) (p : Text × Change → Bool) (es : Layer) → Above k es → Above k (filter p es)
+above-filter k p [] h = tt
+above-filter k p (e ∷ es) h = go (p e) (above-filter k p es h.1)
   where
-    go : (b : Bool) → Above k (part prefix es) → Above k (cond b (e ∷ part prefix es) (part prefix es))
+    go : (b : Bool) → Above k (filter p es) → Above k (cond b (e ∷ filter p es) (filter p es))
     go true ih = (h.0, ih)
     go false ih = ih
 
-pub rising-part : (prefix : Text) (es : Layer) → IsRising es → IsRising (part prefix es)
+pub rising-filter : (p : Text × Change → Bool) (es : Layer) → IsRising es → IsRising (filter p es)
 unfolding IsStrictlySortedBy
-rising-part prefix [] h = tt
-rising-part prefix (e ∷ es) h = go (begins prefix e.0) (rising-part prefix es h.1)
+rising-filter p [] h = tt
+rising-filter p (e ∷ es) h = go (p e) (rising-filter p es h.1)
   where
-    go : (b : Bool) → IsRising (part prefix es) → IsRising (cond b (e ∷ part prefix es) (part prefix es))
-    go true ih = (above_part e.0 prefix es h.0, ih)
+    go : (b : Bool) → IsRising (filter p es) → IsRising (cond b (e ∷ filter p es) (filter p es))
+    go true ih = (above-filter e.0 p es h.0, ih)
     go false ih = ih
+
+pub rising-part : (prefix : Text) (es : Layer) → IsRising es → IsRising (part prefix es)
+rising-part prefix es h = rising-filter (λ e. begins prefix e.0) es h
 
 pub entry-part : (prefix : Text) (es : Layer) (q : Text) → entry_at (part prefix es) q ≡ cond (begins prefix q) (entry_at es q) None
 entry-part prefix es q = sym (find-entry (part prefix es) q) ∙ find-where_key bytes_cmp (begins prefix) q (λ x t. ap (begins prefix) (sym (exact_bytes q x t))) es

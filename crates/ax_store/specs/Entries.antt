@@ -1,5 +1,5 @@
 -- The entries of a layer.
-use Rattle.std.specs.Prelude.{ℕ, Bool, List, [], ◌∷◌, ◌++◌, Option, Some, None, Vec, map}
+use Rattle.std.specs.Prelude.{ℕ, Bool, List, [], ◌∷◌, ◌++◌, true, false, Option, Some, None, Vec, map}
 use Rattle.std.specs.Global.{Global}
 use Rattle.std.specs.Option.{option_to_list}
 use Rattle.std.specs.Ordering.{is_lt, match_ordering}
@@ -45,6 +45,11 @@ into x rest (y ∷ ys) = match_ordering (bytes_cmp x.0 y.0) (x ∷ rest (y ∷ y
 abbrev pub merged : Layer → Layer → Layer
 merged [] older = older
 merged (x ∷ newer) older = into x (merged newer) older
+
+-- whether an entry is a value
+abbrev pub is_put : Text × Change → Bool
+is_put (key, Put value) = true
+is_put (key, Delete) = false
 
 -- the values that entries over nothing give
 abbrev pub live : Layer → List (Text × Text)

@@ -88,7 +88,7 @@ impl Layers {
         merge_first(alloc, &mut self.runs)
     }
 
-    // Makes the runs one, where there are any.
+    // Makes the runs one, where there are any. No run is below that one, so deletes are left out of it.
     pub(crate) fn compact(&mut self, alloc: Global) -> Result<(), NoMemory>
         ensures memtable { self.new.memtable ≡ self.old.memtable }
         ensures content { content_of (layers_of self.new) ≡ content_of (layers_of self.old) }
@@ -98,6 +98,7 @@ impl Layers {
         while self.runs.len() > 1 {
             self.merge_newest(alloc)?;
         }
+        drop_deletes(&mut self.runs);
         Ok(())
     }
 
@@ -120,6 +121,17 @@ impl Layers {
         self.merge_newest(alloc)?;
         self.push_memtable(alloc)?;
         self.compact(alloc)
+    }
+}
+
+// Drops the deletes of the only run, where there is one.
+fn drop_deletes(runs: &mut Vec<Run>)
+    requires { length runs.old.items ≤ 1 }
+    ensures content { content_of runs.new.items ≡ content_of runs.old.items }
+    ensures len { length runs.new.items ≡ length runs.old.items }
+{
+    if let Some(run) = runs.pop() {
+        let _entered = runs.push(run.without_deletes());
     }
 }
 

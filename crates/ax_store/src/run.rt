@@ -1,10 +1,10 @@
 //! A sorted layer that is never changed.
 ghost use Rattle.std.specs.Prelude.{◌≡◌, ℕ, List, [], ◌∷◌, ◌++◌, ◌+◌, ◌<◌, ◌≤◌, ◌^◌, false, true, if◌then◌else◌, length, map as each, None, option_map, IfOk};
 ghost use Rattle.std.specs.Vec.{vec_len, vec_capacity};
-ghost use Rattle.std.specs.List.{All};
+ghost use Rattle.std.specs.List.{All, filter};
 ghost use Rattle.std.specs.List.Sorted.{IsPartitionPoint};
 ghost use Rattle.ax_store.specs.Held.{begins, bytes_cmp, pair_of};
-ghost use Rattle.ax_store.specs.Entries.{deletes, entry_at, IsRising, is_before, live, merged, or_below, part};
+ghost use Rattle.ax_store.specs.Entries.{deletes, entry_at, IsRising, is_before, is_put, live, merged, or_below, part};
 
 use crate::cell::{Cell, Cells};
 use crate::change::{Change, Entry};
@@ -96,6 +96,20 @@ impl Run {
     {
         let entries = part_of(alloc, &self.entries, prefix)?;
         Ok(Run { entries })
+    }
+
+    // The run without its deletes.
+    pub(crate) fn without_deletes(self) -> Run
+        ensures value { result ≡ filter is_put self }
+        ensures rising { IsRising self }
+    {
+        let mut entries = self.entries;
+        entries.retain(
+            |entry: &Entry| -> bool
+                ensures { result ≡ is_put entry.now }
+            { matches!(entry.1, Change::Put(_)) },
+        );
+        Run { entries }
     }
 
     // The values, by their keys.
