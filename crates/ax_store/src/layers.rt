@@ -103,7 +103,7 @@ impl Layers {
     }
 
     // Makes a run of the memtable, where it has entries; five runs become one. The two newest runs are merged before the fifth
-    // comes, so that there are never more than four, and each run but the newest ones is moved once.
+    // comes, so that there are never more than four, and the oldest run, which is the largest, is moved once.
     pub(crate) fn flush(&mut self, alloc: Global) -> Result<(), NoMemory>
         requires { length self.old.runs.items ≤ 4 }
         ensures content { content_of (layers_of self.new) ≡ content_of (layers_of self.old) }
