@@ -18,6 +18,17 @@ fn filled(alloc: Global, most: u32, keys: &[&[u8]]) -> Result<RunStore, Fail>
 }
 
 #[test]
+fn a_full_memtable_becomes_a_run(rt: HostRuntime) -> Result<(), Fail> {
+    let keys: [&[u8]; 6] = [b"a", b"b", b"c", b"d", b"e", b"f"];
+    for (count, runs) in [(2usize, 1u32), (5, 4), (6, 1)] {
+        let store = filled(rt.alloc(), 1, &keys[..count.min(6)])?;
+        assert_eq!(rt; store.memtable_len(), 1);
+        assert_eq!(rt; store.runs(), runs);
+    }
+    Ok(())
+}
+
+#[test]
 fn a_prefix_is_deleted(rt: HostRuntime) -> Result<(), Fail> {
     let mut store = filled(rt.alloc(), 2, &[b"ab", b"ac", b"b"])?;
     store.delete_prefix(b"a")?;
