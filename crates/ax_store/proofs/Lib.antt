@@ -1,0 +1,7 @@
+pub mod ContentLemmas
+pub mod DeleteLemmas
+pub mod KeyLemmas
+pub mod LiveLemmas
+pub mod MergeLemmas
+pub mod PrefixLemmas
+pub mod SearchLemmas

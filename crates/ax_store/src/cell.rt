@@ -1,0 +1,23 @@
+//! What a scan gives.
+ghost use Rattle.std.specs.Prelude.{◌≡◌, IfOk};
+
+use ax_base::{Bytes, Duplicate, ListOf, NoMemory};
+use std::alloc::Global;
+
+/// A key and its value.
+#[derive(Debug, Drop)]
+pub struct Cell {
+    pub key: Bytes,
+    pub value: Bytes,
+}
+
+/// A list of cells.
+pub type Cells = ListOf<Cell>;
+
+impl Duplicate for Cell {
+    fn copy(&self, alloc: Global) -> Result<Cell, NoMemory> {
+        let key = self.key.copy(alloc)?;
+        let value = self.value.copy(alloc)?;
+        Ok(Cell { key, value })
+    }
+}
