@@ -1,10 +1,10 @@
 //! Lines and the shapes that they have.
 use crate::shape::{KindWord, Shape, first_part, is_expr, is_exprs, shape_of};
 use crate::words::{
-    Keyword, field_number, is_name, is_operand, is_value_word, keyword_of, same, sign_of, words,
+    field_number, is_name, is_operand, is_value_word, keyword_of, same, sign_of, words,
 };
 use ax_base::{Bytes, NoMemory};
-use ax_text::Op;
+use ax_text::{Keyword, Op};
 use std::alloc::Global;
 
 // What a line is; `none` where it has no shape.
