@@ -14,6 +14,7 @@ use Rattle.ax_text.specs.Programs.{Program, text_or_stop}
 use Rattle.ax_text.specs.Texts.{Text}
 use Rattle.ax_text.specs.Times.{least_time, later_times}
 use Rattle.ax_text.specs.Run.{World, run, begun, state_after}
+use Rattle.ax_text.specs.Jobs.{firing_job, job_run}
 use Rattle.ax_keys.specs.Keys.{key_cmp}
 use Rattle.ax_time.specs.declared.timer.Timer.{Timer}
 use Rattle.ax_time.specs.Timers.{times_of, PutsTimes}
@@ -21,7 +22,7 @@ use Rattle.ax_time.proofs.KeptLemmas.{same_key}
 use Rattle.ax_machine.specs.Entries.{Key, Entry, says, text_of, entry_text}
 use Rattle.ax_machine.specs.Firings.{most_firings, one_less, total}
 use Rattle.ax_machine.specs.Firings as machine
-use Rattle.ax_machine.specs.Sync.{Map, Plain, does, without_least, firing_run, fire, fire_all, all_fired, silent}
+use Rattle.ax_machine.specs.Sync.{Map, Plain, does, without_least, fire, fire_all, all_fired, silent}
 use Rattle.ax_machine.proofs.FiringLemmas.{key_is, total_most, fire_all_next, fire_all_end}
 use Rattle.ax_machine.proofs.StepLemmas.{fire_all_writes, text_of-append}
 use Rattle.ax_lang.specs.declared.program.Program.{Program as CodeProgram}
@@ -29,7 +30,8 @@ use Rattle.ax_lang.specs.Shown.{shown_program, text_from}
 use Rattle.ax_plain.specs.declared.agenda.Due.{Due}
 use Rattle.ax_plain.specs.declared.handler.RunFacts.{RunFacts}
 use Rattle.ax_plain.specs.Agenda.{due, timer_of, Lists, without, NoneFires, IsFirstDue, Puts}
-use Rattle.ax_plain.specs.Handler.{shown_run_facts, AppendsSome}
+use Rattle.ax_plain.specs.Handler.{shown_run_facts}
+use Rattle.ax_base.specs.Outside.{AppendsSome}
 use Rattle.ax_plain.specs.Plain.{Held, cells_or, map_of, Fits, run_at}
 use Rattle.ax_plain.proofs.AgendaLemmas.{put_back, pops_next, pops_none}
 use Rattle.ax_plain.proofs.RunLemmas.{AppendsSome-behind, AppendsSome-all}
@@ -183,7 +185,7 @@ module _ (p : Program) (whole : Plain) (h0 h : Option (List ℕ)) (s : Plain) (a
         }
       where
         other : (q : Key) → bytes_eq d.key q ≡ false → ((fire p (due d) (said [] s)).map q).times ≡ (s.map q).times
-        other q e = ap (λ (b : Bool). (cond b (state_after (without_least (s.map d.key)) (firing_run p s.wm (s.map d.key) d.time)) (s.map q)).times) e
+        other q e = ap (λ (b : Bool). (cond b (state_after (without_least (s.map d.key)) (job_run p (firing_job s.wm d.time) (s.map d.key).cells)) (s.map q)).times) e
 
 -- ---- the line of the watermark
 

@@ -1,5 +1,5 @@
 -- A handler's run, one statement after another.
-use Rattle.std.proofs.Common.{◌≡◌, ℕ, ℤ, pos, ◌+◌, ◌<◌, ◌≤◌, ◌⊎◌, inl, inr, List, [], ◌∷◌, ◌++◌, Bool, true, false, cond, length, take, drop, map, nat_eq, replicate, slice_set, get_or, Option, Result, Ok, Err, OnErr, refl, sym, ap, ap₂, ◌∙◌, subst, arith, append_assoc}
+use Rattle.std.proofs.Common.{◌≡◌, ℕ, ℤ, pos, ◌+◌, ◌<◌, ◌≤◌, ◌⊎◌, inl, inr, List, [], ◌∷◌, ◌++◌, Bool, true, false, cond, length, take, drop, map, nat_eq, replicate, slice_set, get_or, Option, Result, Ok, Err, OnOk, OnErr, refl, sym, ap, ap₂, ◌∙◌, subst, arith, append_assoc}
 use Rattle.std.proofs.lemmas.Bool.{eqb-true, eqb-false, cases_lt}
 use Rattle.std.proofs.lemmas.List.{append-nil, take-append-drop, take_at, take_all, get_or-replicate, length-replicate, get_or_past, get_or-set_same, get_or-set_other}
 use Rattle.std.specs.Io.KnownBytes.{Appends}
@@ -15,9 +15,13 @@ use Rattle.ax_time.specs.declared.timer.Timer.{Timer as CodeTimer}
 use Rattle.ax_time.specs.Timers.{times_of, PutsTimes}
 use Rattle.ax_time.proofs.KeptLemmas.{times_same}
 use Rattle.ax_machine.specs.Entries.{Key, Out, says, text_of, entry_text}
-use Rattle.ax_lang.specs.Rows.{Row, Acts, Asks, with_row}
-use Rattle.ax_plain.specs.Handler.{shown_locals, before, does_row, AppendsSome}
-use Rattle.ax_plain.proofs.TimesLemmas.{puts_then, puts_at, times_after_both}
+use Rattle.ax_lang.specs.Rows.{Statement, Acts, Asks, with_row}
+use Rattle.ax_plain.specs.Handler.{shown_locals, before, does_statement, LeavesOthers}
+use Rattle.ax_base.specs.Outside.{AppendsSome}
+use Rattle.ax_base.specs.Outside.{Counts, WriteCounts, OwnCounts}
+use Rattle.ax_base.specs.declared.outside.SinkFault.{SinkFault}
+use Rattle.ax_base.specs.declared.outside.SinkFault.TheVariants as fault
+use Rattle.ax_plain.proofs.TimesLemmas.{puts_elsewhere, puts_then, puts_at, times_after_both}
 
 zero_at : (n i : ℕ) → (i < n) ⊎ (n ≤ i) → get_or (replicate n (pos 0)) i (pos 0) ≡ pos 0
 zero_at n i (inl h) = get_or-replicate n i (pos 0) (pos 0) h
@@ -51,24 +55,24 @@ pub says_both : (key : Key) (xs ys : List (List ℤ)) → text_of (says key (xs 
 says_both key [] ys = refl
 says_both key (x ∷ xs) ys = ap (λ t. entry_text (Out key x) ++ t) (says_both key xs ys) ∙ sym (append_assoc (entry_text (Out key x)) (text_of (says key xs)) (text_of (says key ys)))
 
-run_row : (f : Facts) (r : Row) (rest : Text) (w : World) → run f (with_row r rest) w ≡ run f rest (does_row f r w)
+run_row : (f : Facts) (r : Statement) (rest : Text) (w : World) → run f (with_row r rest) w ≡ run f rest (does_statement f r w)
 run_row f (Acts q) rest w = refl
 run_row f (Asks a) rest w = refl
 
-served_after : Row → ℕ → ℕ
+served_after : Statement → ℕ → ℕ
 served_after (Acts q) n = n
 served_after (Asks a) n = n + 1
 
 -- a statement does the same whatever was done before it
-does_more : (f : Facts) (r : Row) (names : Names) (lines : List (List ℤ)) (ops : List TimerOp) (cells : Cells) (n : ℕ)
-    → does_row f r (world names lines ops cells n)
-    ≡ world (does_row f r (before names cells)).talk.names (lines ++ (does_row f r (before names cells)).talk.lines) (ops ++ (does_row f r (before names cells)).talk.ops) (does_row f r (before names cells)).cells (served_after r n)
+does_more : (f : Facts) (r : Statement) (names : Names) (lines : List (List ℤ)) (ops : List TimerOp) (cells : Cells) (n : ℕ)
+    → does_statement f r (world names lines ops cells n)
+    ≡ world (does_statement f r (before names cells)).talk.names (lines ++ (does_statement f r (before names cells)).talk.lines) (ops ++ (does_statement f r (before names cells)).talk.ops) (does_statement f r (before names cells)).cells (served_after r n)
 unfolding served_after
 does_more f (Acts (Emit values)) names lines ops cells n = ap (λ (o : List TimerOp). world names (lines ++ map (value f names) values ∷ []) o cells n) (sym (append-nil ops))
-does_more f (Acts (Timer time)) names lines ops cells n = ap (λ (l : List (List ℤ)). world names l (ops ++ (does_row f (Acts (Timer time)) (before names cells)).talk.ops) cells n) (sym (append-nil lines))
-does_more f (Acts (Untimer time)) names lines ops cells n = ap (λ (l : List (List ℤ)). world names l (ops ++ (does_row f (Acts (Untimer time)) (before names cells)).talk.ops) cells n) (sym (append-nil lines))
+does_more f (Acts (Timer time)) names lines ops cells n = ap (λ (l : List (List ℤ)). world names l (ops ++ (does_statement f (Acts (Timer time)) (before names cells)).talk.ops) cells n) (sym (append-nil lines))
+does_more f (Acts (Untimer time)) names lines ops cells n = ap (λ (l : List (List ℤ)). world names l (ops ++ (does_statement f (Acts (Untimer time)) (before names cells)).talk.ops) cells n) (sym (append-nil lines))
 does_more f (Asks a) names lines ops cells n =
-    ap₂ (λ (l : List (List ℤ)) (o : List TimerOp). world (does_row f (Asks a) (before names cells)).talk.names l o (does_row f (Asks a) (before names cells)).cells (n + 1)) (sym (append-nil lines)) (sym (append-nil ops))
+    ap₂ (λ (l : List (List ℤ)) (o : List TimerOp). world (does_statement f (Asks a) (before names cells)).talk.names l o (does_statement f (Asks a) (before names cells)).cells (n + 1)) (sym (append-nil lines)) (sym (append-nil ops))
 
 pub start_gone_on : (f : Facts) (key : Key) (rest : Text) (h : Option (List ℕ)) (t : List CodeTimer) (names : Names) (cells : Cells) → names ≡ (λ i. pos 0) → GoneOn f key (run f rest (begun cells)) h h t t rest names cells
 start_gone_on f key rest h t names cells e = record {
@@ -80,16 +84,16 @@ start_gone_on f key rest h t names cells e = record {
   same = ap (λ (n : Names). run f rest (world n [] [] cells 0)) e;
 }
 
-pub GoneOn-row : (f : Facts) (key : Key) (whole : World) (h0 h h' : Option (List ℕ)) (t0 t t' : List CodeTimer) (r : Row) (text rest : Text) (names names' : Names) (cells cells' : Cells)
+pub GoneOn-row : (f : Facts) (key : Key) (whole : World) (h0 h h' : Option (List ℕ)) (t0 t t' : List CodeTimer) (r : Statement) (text rest : Text) (names names' : Names) (cells cells' : Cells)
     → GoneOn f key whole h0 h t0 t text names cells
     → text ≡ with_row r rest
-    → names' ≡ (does_row f r (before names cells)).talk.names
-    → cells' ≡ (does_row f r (before names cells)).cells
-    → PutsTimes t t' key (times_after (does_row f r (before names cells)).talk.ops (times_of t key))
-    → Appends h h' (text_of (says key (does_row f r (before names cells)).talk.lines))
+    → names' ≡ (does_statement f r (before names cells)).talk.names
+    → cells' ≡ (does_statement f r (before names cells)).cells
+    → PutsTimes t t' key (times_after (does_statement f r (before names cells)).talk.ops (times_of t key))
+    → Appends h h' (text_of (says key (does_statement f r (before names cells)).talk.lines))
     → GoneOn f key whole h0 h' t0 t' rest names' cells'
 GoneOn-row f key whole h0 h h' t0 t t' r text rest names names' cells cells' g te en ec p a =
-    let d : World = does_row f r (before names cells) in
+    let d : World = does_statement f r (before names cells) in
     let ops : List TimerOp = g.ops ++ d.talk.ops in
     let times : times_after d.talk.ops (times_of t key) ≡ times_after ops (times_of t0 key) =
     ap (times_after d.talk.ops) (puts_at t0 t key _ g.times) ∙ sym (times_after_both g.ops d.talk.ops (times_of t0 key)) in
@@ -141,6 +145,21 @@ AppendsSome-behind a b c x y z all p q e =
     let same : take (length first) all ≡ first = ap (take (length first)) (sym split) ∙ take_at first behind (length first) refl in
     (length first, Appends-more a b c x (take q.0 y) (take (length first) all) p q.1 (sym same))
 
+-- a sink's counts by a call that takes memory of its own
+pub own_counts : {T : Type 0} (a b : Counts) (r : Result T SinkFault) → WriteCounts a b r → OwnCounts a b r
+own_counts a b (Ok x) h = h
+own_counts a b (Err fault.Failed) h = h
+own_counts a b (Err fault.NoMemory) h = (h.0, inr h.1)
+
+-- the same behind calls that kept them
+pub counts_behind : {T : Type 0} (a b c : Counts) (r : Result T SinkFault) → b ≡ a → OwnCounts b c r → OwnCounts a c r
+counts_behind {T} a b c r e h = let P : Counts → Type 0 = λ x. OwnCounts x c r in subst P e h
+
+-- the times of other keys stay where a key's timers are set, and where nothing has changed
+pub set_others : {T E : Type 0} (r : Result T E) (t u : List CodeTimer) (k : Key) (xs : List ℤ) → OnOk r (PutsTimes t u k xs) → OnErr r (u ≡ t) → LeavesOthers k t u
+set_others (Ok x) t u k xs p e q a = puts_elsewhere t u k q xs p a
+set_others (Err f) t u k xs p e q a = ap (λ v. times_of v q) e
+
 -- a run only adds lines
 pub adds_lines : (f : Facts) (t : Text) (w : World) → (more : List (List ℤ)) × ((run f t w).talk.lines ≡ w.talk.lines ++ more)
 adds_lines f Stop w = ([], sym (append-nil w.talk.lines))
@@ -153,13 +172,13 @@ adds_lines f (Act (Untimer time) t) w = let further = adds_lines f t (act_in f (
 adds_lines f (Ask a t) w = let further = adds_lines f t (ask_in f a w) in (further.0, further.1)
 
 -- a statement failed: the sink took a prefix of what the whole run writes
-pub GoneOn-failed : (f : Facts) (key : Key) (whole : World) (h0 h h' : Option (List ℕ)) (t0 t : List CodeTimer) (r : Row) (text rest : Text) (names : Names) (cells : Cells)
+pub GoneOn-failed : (f : Facts) (key : Key) (whole : World) (h0 h h' : Option (List ℕ)) (t0 t : List CodeTimer) (r : Statement) (text rest : Text) (names : Names) (cells : Cells)
     → GoneOn f key whole h0 h t0 t text names cells
     → text ≡ with_row r rest
-    → AppendsSome h h' (text_of (says key (does_row f r (before names cells)).talk.lines))
+    → AppendsSome h h' (text_of (says key (does_statement f r (before names cells)).talk.lines))
     → AppendsSome h0 h' (text_of (says key whole.talk.lines))
 GoneOn-failed f key whole h0 h h' t0 t r text rest names cells g te a =
-    let d : World = does_row f r (before names cells) in
+    let d : World = does_statement f r (before names cells) in
     let next : World = world d.talk.names (g.lines ++ d.talk.lines) (g.ops ++ d.talk.ops) d.cells (served_after r g.served) in
     let more = adds_lines f rest next in
     let all : run f rest next ≡ whole =

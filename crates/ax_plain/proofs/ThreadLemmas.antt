@@ -31,9 +31,9 @@ use Rattle.ax_machine.proofs.FiringLemmas.{key_is}
 use Rattle.ax_lang.specs.declared.program.Program.{Program}
 use Rattle.ax_lang.specs.Shown.{shown_program, text_from}
 use Rattle.ax_plain.specs.declared.handler.RunFacts.{RunFacts}
-use Rattle.ax_plain.specs.Handler.{shown_run_facts, AppendsSome}
-use Rattle.ax_plain.specs.Plain.{Held, cells_or, map_of, FitsIfHeld, Fits, run_at}
-use Rattle.ax_plain.proofs.TimesLemmas.{puts_elsewhere}
+use Rattle.ax_plain.specs.Handler.{shown_run_facts, LeavesOthers}
+use Rattle.ax_base.specs.Outside.{AppendsSome}
+use Rattle.ax_plain.specs.Plain.{Held, cells_or, map_of, FitsIfHeld, Fits, run_at, LeavesKeys}
 
 abbrev pub key_state : Cells → List ℤ → KeyState
 key_state cells times = record { cells = cells; times = times }
@@ -82,15 +82,19 @@ module _ (kinds : List Kind) (m n : Held) (t u : List Timer) (k : Key) (cells : 
   put_fits f a q true e = subst (FitsIfHeld kinds) (sym (holds_by m n k cells h q true e)) f
   put_fits f a q false e = subst (FitsIfHeld kinds) (sym (holds_by m n k cells h q false e)) (a.cells q)
 
-  no_times : (xs : List ℤ) → Fits kinds m t → PutsTimes t u k xs → (q : Key) → get key_cmp n q ≡ None → (b : Bool) → bytes_eq k q ≡ b → times_of u q ≡ []
-  no_times xs a p q none true e = let held : Some cells ≡ None = sym (holds_by m n k cells h q true e) ∙ none in absurd (cc)
-  no_times xs a p q none false e = puts_elsewhere t u k q xs p e ∙ a.times q (sym (holds_by m n k cells h q false e) ∙ none)
+  no_times : Fits kinds m t → LeavesOthers k t u → (q : Key) → get key_cmp n q ≡ None → (b : Bool) → bytes_eq k q ≡ b → times_of u q ≡ []
+  no_times a p q none true e = let held : Some cells ≡ None = sym (holds_by m n k cells h q true e) ∙ none in absurd (cc)
+  no_times a p q none false e = p q e ∙ a.times q (sym (holds_by m n k cells h q false e) ∙ none)
 
-  pub ran_fits : (xs : List ℤ) → cell_kinds cells ≡ kinds → Fits kinds m t → PutsTimes t u k xs → Fits kinds n u
-  ran_fits xs f a p = record {
+  pub ran_fits : cell_kinds cells ≡ kinds → Fits kinds m t → LeavesOthers k t u → Fits kinds n u
+  ran_fits f a p = record {
     cells = λ q. put_fits f a q (bytes_eq k q) refl;
-    times = λ q none. no_times xs a p q none (bytes_eq k q) refl;
+    times = λ q none. no_times a p q none (bytes_eq k q) refl;
   }
+
+  -- what other keys have stays
+  pub ran_others : LeavesOthers k t u → LeavesKeys k (map_of kinds m t) (map_of kinds n u)
+  ran_others p q e = ap₂ key_state (ap (cells_or kinds) (holds_by m n k cells h q false e)) (p q e)
 
 -- nothing was held of a key, and now its untouched states are
 module _ (kinds : List Kind) (m n : Held) (t : List Timer) (k : Key) (cells : List Cell) (none : get key_cmp m k ≡ None) (h : Holds m n k cells) where
@@ -99,6 +103,9 @@ module _ (kinds : List Kind) (m n : Held) (t : List Timer) (k : Key) (cells : Li
     by_key : (q : Key) (b : Bool) → bytes_eq k q ≡ b → cells_or kinds (get key_cmp n q) ≡ cells_or kinds (get key_cmp m q)
     by_key q true f = ap (cells_or kinds) (holds_by m n k cells h q true f) ∙ e ∙ sym (ap (cells_or kinds) none) ∙ ap (λ x. cells_or kinds (get key_cmp m x)) (key_is k q f)
     by_key q false f = ap (cells_or kinds) (holds_by m n k cells h q false f)
+
+  pub held_others : shown_cells cells ≡ untouched kinds → LeavesKeys k (map_of kinds m t) (map_of kinds n t)
+  held_others e q f = ap (λ (x : Map). x q) (held_map e)
 
   pub held_plain : (wm : ℤ) → n.entries ≡ insert_entry key_cmp m.entries k cells → shown_cells cells ≡ untouched kinds
       → plain wm (keys n) (map_of kinds n t) ≡ knows k (plain wm (keys m) (map_of kinds m t))

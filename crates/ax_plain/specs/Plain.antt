@@ -1,5 +1,6 @@
 -- What the plain thread holds, and what it stands for.
-use Rattle.std.specs.Prelude.{◌≡◌, ℕ, List, [], Option, Some, None}
+use Rattle.std.specs.Prelude.{◌≡◌, ℕ, false, List, [], Option, Some, None}
+use Rattle.std.specs.Str.{bytes_eq}
 use Rattle.std.specs.BTreeMap.{BTreeMap, get, keys}
 use Rattle.ax_text.specs.declared.vocabulary.Kind.{Kind}
 use Rattle.ax_text.specs.Cells.{Cell, Cells}
@@ -10,14 +11,11 @@ use Rattle.ax_time.specs.declared.timer.Timer.{Timer}
 use Rattle.ax_time.specs.Timers.{times_of}
 use Rattle.ax_lang.specs.declared.program.Program.{Program}
 use Rattle.ax_machine.specs.Entries.{Key}
+use Rattle.ax_machine.specs.Events.{Event, Row, Mark, Barrier}
 use Rattle.ax_machine.specs.Sync.{Map, Plain, does}
 use Rattle.ax_plain.specs.Handler.{run_from}
 use Rattle.ax_plain.specs.declared.handler.RunFacts.{RunFacts}
 use Rattle.ax_plain.specs.declared.plain.PlainThread.{PlainThread}
-
--- how many key groups there are
-abbrev pub groups : ℕ
-groups = 128
 
 -- the states that are held of each key
 abbrev pub Held : Type 0
@@ -50,6 +48,16 @@ ThreadFits kinds thread = Fits kinds thread.states thread.timers
 -- behind the run of a key's handler from a place on
 abbrev pub run_at : Program → ℕ → RunFacts → Key → Plain → Plain
 run_at p place facts key s = does key (s.map key) (run_from p place facts (s.map key).cells) s
+
+-- each other key has the states and times that it had
+abbrev pub LeavesKeys : Key → Map → Map → Type 0
+LeavesKeys key old new = (q : Key) → bytes_eq key q ≡ false → new q ≡ old q
+
+-- what an event leaves alone, also where an error cuts it short: a row every other key, and a barrier all
+abbrev pub LeavesRest : Event → Map → Map → Type 0
+LeavesRest (Row key time values) old new = LeavesKeys key old new
+LeavesRest (Mark time) old new = Unit {0}
+LeavesRest (Barrier id) old new = new ≡ old
 
 -- nothing is held of a key, and nothing has happened
 pub record IsAbsent (kinds : List Kind) (key : Key) (old new : PlainThread) (h h' : Option (List ℕ)) : Type 0 where

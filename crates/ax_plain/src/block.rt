@@ -7,8 +7,8 @@ ghost use Rattle.ax_keys.specs.Keys.{key_cmp};
 ghost use Rattle.ax_machine.specs.Entries.{Mark, entry_text};
 ghost use Rattle.ax_machine.specs.Sync.{block_of};
 ghost use Rattle.ax_lang.specs.Shown.{shown_program, shown_kinds};
-ghost use Rattle.ax_plain.specs.Handler.{HasSinkCause, AppendsSome};
-ghost use Rattle.ax_plain.specs.Plain.{groups, shown_plain, ThreadFits};
+ghost use Rattle.ax_base.specs.Outside.{AppendsSome, OwnCounts};
+ghost use Rattle.ax_plain.specs.Plain.{shown_plain, ThreadFits};
 ghost use Rattle.ax_plain.specs.Snaps.{snap_of};
 
 use crate::plain::{PlainThread, States};
@@ -19,9 +19,6 @@ use ax_snapshot::{KeySnap, KeySnaps, Snapshot, write_snapshot};
 use ax_state::KeyCells;
 use ax_time::Timers;
 use std::alloc::Global;
-
-// How many key groups there are.
-const KEY_GROUPS: u16 = 128;
 
 // What a key has.
 fn snap_key(
@@ -56,27 +53,31 @@ impl PlainThread {
     pub(crate) fn write_block<K: Sink>(
         &self,
         program: &Program,
+        groups: u16,
         id: &i64,
         out: &mut K,
     ) -> Result<(), SinkFault>
-        requires { ThreadFits (shown_kinds program.now) self.now }
+        requires fits { ThreadFits (shown_kinds program.now) self.now }
+        requires least { 1 ≤ groups }
+        requires most { groups ≤ 32768 }
         ensures lines { OnOk result (Appends (K.holds out.old) (K.holds out.new)
             (entry_text (Mark (block_of groups (shown_program program.now) id.now (shown_plain (shown_kinds program.now) self.now))))) }
         ensures part { OnErr result (AppendsSome (K.holds out.old) (K.holds out.new)
             (entry_text (Mark (block_of groups (shown_program program.now) id.now (shown_plain (shown_kinds program.now) self.now))))) }
-        ensures faults { K.faults out.old ≤ K.faults out.new }
-        ensures short { K.short out.old ≤ K.short out.new }
-        ensures cause { HasSinkCause (K.faults out.old) (K.faults out.new) result }
+        ensures counts { OwnCounts (K.counts out.old) (K.counts out.new) result }
+        ensures base { K.base out.new ≡ K.base out.old }
     {
-        let Ok(bytes) = self.block(program, id) else {
+        let Ok(bytes) = self.block(program, groups, id) else {
             return Err(SinkFault::NoMemory);
         };
         write_all(out, bytes.as_slice())
     }
 
     // The block of a barrier.
-    fn block(&self, program: &Program, id: &i64) -> Result<Bytes, NoMemory>
-        requires { ThreadFits (shown_kinds program.now) self.now }
+    fn block(&self, program: &Program, groups: u16, id: &i64) -> Result<Bytes, NoMemory>
+        requires fits { ThreadFits (shown_kinds program.now) self.now }
+        requires least { 1 ≤ groups }
+        requires most { groups ≤ 32768 }
         ensures { IfOk result (λ bytes. bytes ≡ entry_text (Mark (block_of groups (shown_program program.now) id.now (shown_plain (shown_kinds program.now) self.now)))) }
     {
         let snapshot = Snapshot {
@@ -84,6 +85,6 @@ impl PlainThread {
             wm: self.wm,
             keys: snap_keys(self.alloc, &self.states, &self.timers)?,
         };
-        write_snapshot(self.alloc, &snapshot, program.decls(), KEY_GROUPS)
+        write_snapshot(self.alloc, &snapshot, program.decls(), groups)
     }
 }

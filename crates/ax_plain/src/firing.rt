@@ -1,5 +1,5 @@
 //! Watermarks: what is due fires, and the watermark is written.
-ghost use Rattle.std.specs.Prelude.{◌≡◌, ◌≤◌, ℕ, List, Some, true, OnOk, OnErr, int_lt};
+ghost use Rattle.std.specs.Prelude.{◌≡◌, ℕ, List, Some, true, OnOk, OnErr, int_lt};
 ghost use Rattle.std.specs.Io.KnownBytes.{Appends};
 ghost use Rattle.ax_text.specs.Times.{least_time};
 ghost use Rattle.ax_time.specs.Timers.{times_of};
@@ -7,7 +7,7 @@ ghost use Rattle.ax_machine.specs.Entries.{Watermark, text_of};
 ghost use Rattle.ax_machine.specs.Sync.{all_fired, at_watermark, fire, silent, watermark_step, writes};
 ghost use Rattle.ax_lang.specs.Shown.{shown_program, shown_kinds};
 ghost use Rattle.ax_plain.specs.Agenda.{due};
-ghost use Rattle.ax_plain.specs.Handler.{HasSinkCause, AppendsSome};
+ghost use Rattle.ax_base.specs.Outside.{AppendsSome, OwnCounts};
 ghost use Rattle.ax_plain.specs.Plain.{shown_plain, ThreadFits};
 
 use crate::agenda::{Agenda, Due};
@@ -24,16 +24,15 @@ impl PlainThread {
         out: &mut K,
     ) -> Result<(), SinkFault>
         requires { ThreadFits (shown_kinds program.now) self.old }
-        ensures fits { OnOk result (ThreadFits (shown_kinds program.now) self.new) }
+        ensures fits { ThreadFits (shown_kinds program.now) self.new }
         ensures steps { OnOk result (shown_plain (shown_kinds program.now) self.new
             ≡ silent (watermark_step (shown_program program.now) time.now (shown_plain (shown_kinds program.now) self.old))) }
         ensures lines { OnOk result (Appends (K.holds out.old) (K.holds out.new)
             (text_of (watermark_step (shown_program program.now) time.now (shown_plain (shown_kinds program.now) self.old)).entries)) }
         ensures part { OnErr result (AppendsSome (K.holds out.old) (K.holds out.new)
             (text_of (watermark_step (shown_program program.now) time.now (shown_plain (shown_kinds program.now) self.old)).entries)) }
-        ensures faults { K.faults out.old ≤ K.faults out.new }
-        ensures short { K.short out.old ≤ K.short out.new }
-        ensures cause { HasSinkCause (K.faults out.old) (K.faults out.new) result }
+        ensures counts { OwnCounts (K.counts out.old) (K.counts out.new) result }
+        ensures base { K.base out.new ≡ K.base out.old }
     {
         if self.wm < *time {
             self.pass_greater(program, time, out)
@@ -50,16 +49,15 @@ impl PlainThread {
         out: &mut K,
     ) -> Result<(), SinkFault>
         requires { ThreadFits (shown_kinds program.now) self.old }
-        ensures fits { OnOk result (ThreadFits (shown_kinds program.now) self.new) }
+        ensures fits { ThreadFits (shown_kinds program.now) self.new }
         ensures steps { OnOk result (shown_plain (shown_kinds program.now) self.new
             ≡ silent (all_fired (shown_program program.now) (at_watermark time.now (shown_plain (shown_kinds program.now) self.old)))) }
         ensures lines { OnOk result (Appends (K.holds out.old) (K.holds out.new)
             (text_of (writes (Watermark time.now) (all_fired (shown_program program.now) (at_watermark time.now (shown_plain (shown_kinds program.now) self.old)))).entries)) }
         ensures part { OnErr result (AppendsSome (K.holds out.old) (K.holds out.new)
             (text_of (writes (Watermark time.now) (all_fired (shown_program program.now) (at_watermark time.now (shown_plain (shown_kinds program.now) self.old)))).entries)) }
-        ensures faults { K.faults out.old ≤ K.faults out.new }
-        ensures short { K.short out.old ≤ K.short out.new }
-        ensures cause { HasSinkCause (K.faults out.old) (K.faults out.new) result }
+        ensures counts { OwnCounts (K.counts out.old) (K.counts out.new) result }
+        ensures base { K.base out.new ≡ K.base out.old }
     {
         self.wm = *time;
         self.fire_due(program, time, out)?;
@@ -78,16 +76,15 @@ impl PlainThread {
     ) -> Result<(), SinkFault>
         requires fits { ThreadFits (shown_kinds program.now) self.old }
         requires mark { self.old.wm ≡ time.now }
-        ensures fits { OnOk result (ThreadFits (shown_kinds program.now) self.new) }
+        ensures fits { ThreadFits (shown_kinds program.now) self.new }
         ensures steps { OnOk result (shown_plain (shown_kinds program.now) self.new
             ≡ silent (all_fired (shown_program program.now) (shown_plain (shown_kinds program.now) self.old))) }
         ensures lines { OnOk result (Appends (K.holds out.old) (K.holds out.new)
             (text_of (all_fired (shown_program program.now) (shown_plain (shown_kinds program.now) self.old)).entries)) }
         ensures part { OnErr result (AppendsSome (K.holds out.old) (K.holds out.new)
             (text_of (all_fired (shown_program program.now) (shown_plain (shown_kinds program.now) self.old)).entries)) }
-        ensures faults { K.faults out.old ≤ K.faults out.new }
-        ensures short { K.short out.old ≤ K.short out.new }
-        ensures cause { HasSinkCause (K.faults out.old) (K.faults out.new) result }
+        ensures counts { OwnCounts (K.counts out.old) (K.counts out.new) result }
+        ensures base { K.base out.new ≡ K.base out.old }
     {
         let Ok(mut agenda) = Agenda::begin(self.alloc, &self.timers, *time) else {
             return Err(SinkFault::NoMemory);
@@ -111,16 +108,15 @@ impl PlainThread {
     ) -> Result<(), SinkFault>
         requires fits { ThreadFits (shown_kinds program.now) self.old }
         requires first { least_time (times_of self.old.timers timer.now.key) ≡ Some timer.now.time }
-        ensures fits { OnOk result (ThreadFits (shown_kinds program.now) self.new) }
+        ensures fits { ThreadFits (shown_kinds program.now) self.new }
         ensures steps { OnOk result (shown_plain (shown_kinds program.now) self.new
             ≡ silent (fire (shown_program program.now) (due timer.now) (shown_plain (shown_kinds program.now) self.old))) }
         ensures lines { OnOk result (Appends (K.holds out.old) (K.holds out.new)
             (text_of (fire (shown_program program.now) (due timer.now) (shown_plain (shown_kinds program.now) self.old)).entries)) }
         ensures part { OnErr result (AppendsSome (K.holds out.old) (K.holds out.new)
             (text_of (fire (shown_program program.now) (due timer.now) (shown_plain (shown_kinds program.now) self.old)).entries)) }
-        ensures faults { K.faults out.old ≤ K.faults out.new }
-        ensures short { K.short out.old ≤ K.short out.new }
-        ensures cause { HasSinkCause (K.faults out.old) (K.faults out.new) result }
+        ensures counts { OwnCounts (K.counts out.old) (K.counts out.new) result }
+        ensures base { K.base out.new ≡ K.base out.old }
     {
         self.timers.take_least(&timer.key);
         let facts = run_facts(&timer.time, &self.wm, &[]);

@@ -1,8 +1,9 @@
 //! The run of a handler on the states and timers of its key: each statement acts at once, and each line is written at once.
-ghost use Rattle.std.specs.Prelude.{◌≡◌, ◌<◌, ◌≤◌, ◌++◌, ◌∷◌, true, ℕ, ℤ, List, length, map, pos, replicate, FitsSigned, OnOk, OnErr};
+ghost use Rattle.std.specs.Prelude.{◌≡◌, ◌<◌, ◌++◌, ◌∷◌, true, ℕ, ℤ, List, length, map, pos, replicate, FitsSigned, OnOk, OnErr};
 ghost use Rattle.std.specs.Int.{w64};
 ghost use Rattle.std.specs.Fmt.{signed_decimal};
 ghost use Rattle.std.specs.Io.KnownBytes.{Appends};
+ghost use Rattle.ax_base.specs.Outside.{AppendsSome, OwnCounts};
 ghost use Rattle.ax_text.specs.declared.vocabulary.Kind.TheVariants as kind;
 ghost use Rattle.ax_text.specs.declared.vocabulary.Request.TheVariants as request;
 ghost use Rattle.ax_text.specs.Exprs.{value};
@@ -19,7 +20,7 @@ ghost use Rattle.ax_expr.specs.Scopes.{shown_facts, shown_names};
 ghost use Rattle.ax_lang.specs.Rows.{Acts, Asks};
 ghost use Rattle.ax_lang.specs.Steps.{stmt_fits};
 ghost use Rattle.ax_lang.specs.Shown as lang;
-ghost use Rattle.ax_plain.specs.Handler.{shown_run_facts, shown_locals, before, does_row, did, run_from, HasSinkCause, AppendsSome};
+ghost use Rattle.ax_plain.specs.Handler.{shown_run_facts, shown_locals, before, does_statement, did, run_from, LeavesOthers};
 
 use ax_base::{NoMemory, Sink, SinkFault, write_all};
 use ax_expr::{Expr, Scope};
@@ -166,9 +167,8 @@ fn run_emit<K: Sink>(
 ) -> Result<(), SinkFault>
     ensures lines { OnOk result (Appends (K.holds out.old) (K.holds out.new) (entry_text (Out key.now (map (value (shown_run_facts facts.now) (shown_locals names.now)) (map shown_expr exprs.now))))) }
     ensures part { OnErr result (AppendsSome (K.holds out.old) (K.holds out.new) (entry_text (Out key.now (map (value (shown_run_facts facts.now) (shown_locals names.now)) (map shown_expr exprs.now))))) }
-    ensures faults { K.faults out.old ≤ K.faults out.new }
-    ensures short { K.short out.old ≤ K.short out.new }
-    ensures cause { HasSinkCause (K.faults out.old) (K.faults out.new) result }
+    ensures counts { OwnCounts (K.counts out.old) (K.counts out.new) result }
+    ensures base { K.base out.new ≡ K.base out.old }
 {
     let Ok(()) = put_line(text, key.as_bytes(), exprs, &scope_of(facts, names)) else {
         return Err(SinkFault::NoMemory);
@@ -204,7 +204,7 @@ fn run_get(
 )
     requires name { name < length names.old }
     requires kind { has_kind (cell_kinds cells.now) state kind.Value ≡ true }
-    ensures { shown_locals names.new ≡ (does_row (shown_run_facts facts.now) (Asks (Get name state (shown_expr missing.now))) (before (shown_locals names.old) (shown_cells cells.now))).talk.names }
+    ensures { shown_locals names.new ≡ (does_statement (shown_run_facts facts.now) (Asks (Get name state (shown_expr missing.now))) (before (shown_locals names.old) (shown_cells cells.now))).talk.names }
 {
     let number = number_of(names, state, missing, facts, cells);
     names[name] = number;
@@ -219,7 +219,7 @@ fn run_put(
     cells: &mut KeyCells,
 ) -> Result<(), NoMemory>
     requires { has_kind (cell_kinds cells.old) state kind.Value ≡ true }
-    ensures cells { OnOk result (shown_cells cells.new ≡ (does_row (shown_run_facts facts.now) (Asks (Put state (shown_expr number.now))) (before (shown_locals names.now) (shown_cells cells.old))).cells) }
+    ensures cells { OnOk result (shown_cells cells.new ≡ (does_statement (shown_run_facts facts.now) (Asks (Put state (shown_expr number.now))) (before (shown_locals names.now) (shown_cells cells.old))).cells) }
     ensures kinds { cell_kinds cells.new ≡ cell_kinds cells.old }
 {
     let number = number.value(&scope_of(facts, names));
@@ -237,14 +237,16 @@ fn run_set(
     facts: &RunFacts<'_>,
     timers: &mut Timers,
 ) -> Result<(), NoMemory>
-    ensures { OnOk result (PutsTimes timers.old timers.new key.now (insert_time (value (shown_run_facts facts.now) (shown_locals names.now) (shown_expr time.now)) (times_of timers.old key.now))) }
+    ensures set { OnOk result (PutsTimes timers.old timers.new key.now (insert_time (value (shown_run_facts facts.now) (shown_locals names.now) (shown_expr time.now)) (times_of timers.old key.now))) }
+    ensures others { LeavesOthers key.now timers.old timers.new }
 {
     timers.set(key, value_of(time, facts, names))
 }
 
 // A timer of the key is taken off.
 fn run_unset(names: &[i64], time: &Expr, key: &Key, facts: &RunFacts<'_>, timers: &mut Timers)
-    ensures { PutsTimes timers.old timers.new key.now (remove_time (value (shown_run_facts facts.now) (shown_locals names.now) (shown_expr time.now)) (times_of timers.old key.now)) }
+    ensures unset { PutsTimes timers.old timers.new key.now (remove_time (value (shown_run_facts facts.now) (shown_locals names.now) (shown_expr time.now)) (times_of timers.old key.now)) }
+    ensures others { LeavesOthers key.now timers.old timers.new }
 {
     timers.unset(key, value_of(time, facts, names));
 }
@@ -265,11 +267,11 @@ fn run_stmt<K: Sink>(
     ensures cells { OnOk result (shown_cells cells.new ≡ (did facts.now stmt.now room.old.names.items cells.old).cells) }
     ensures kinds { cell_kinds cells.new ≡ cell_kinds cells.old }
     ensures times { OnOk result (PutsTimes timers.old timers.new key.now (times_after (did facts.now stmt.now room.old.names.items cells.old).talk.ops (times_of timers.old key.now))) }
+    ensures others { LeavesOthers key.now timers.old timers.new }
     ensures lines { OnOk result (Appends (K.holds out.old) (K.holds out.new) (text_of (says key.now (did facts.now stmt.now room.old.names.items cells.old).talk.lines))) }
     ensures part { OnErr result (AppendsSome (K.holds out.old) (K.holds out.new) (text_of (says key.now (did facts.now stmt.now room.old.names.items cells.old).talk.lines))) }
-    ensures faults { K.faults out.old ≤ K.faults out.new }
-    ensures short { K.short out.old ≤ K.short out.new }
-    ensures cause { HasSinkCause (K.faults out.old) (K.faults out.new) result }
+    ensures counts { OwnCounts (K.counts out.old) (K.counts out.new) result }
+    ensures base { K.base out.new ≡ K.base out.old }
 {
     match stmt {
         Stmt::Get {
@@ -318,9 +320,9 @@ fn run_stmt<K: Sink>(
 
 /// Runs the statements of a handler from a place on, on the states and timers of the key, and writes each output line at once.
 ///
-/// Condition: the states have the kinds that the program declares. They keep them, also after an error. After an error some
-/// of the statements have run, and the sink took a prefix of the text of the lines that the whole run writes. `Failed` comes
-/// only where the sink's count of failures rose.
+/// Condition: the states have the kinds that the program declares. They keep them, and the timers of other keys stay, also
+/// after an error. After an error some of the statements have run, and the sink took a prefix of the text of the lines that the
+/// whole run writes. `Failed` comes only where the sink failed, and `NoMemory` where memory was short here or in the sink.
 pub fn run_handler<K: Sink>(
     room: &mut Room,
     program: &Program,
@@ -335,11 +337,11 @@ pub fn run_handler<K: Sink>(
     ensures kinds { cell_kinds cells.new ≡ lang.shown_kinds program.now }
     ensures cells { OnOk result (shown_cells cells.new ≡ (run_from program.now place facts.now (shown_cells cells.old)).cells) }
     ensures times { OnOk result (PutsTimes timers.old timers.new key.now (times_after (run_from program.now place facts.now (shown_cells cells.old)).talk.ops (times_of timers.old key.now))) }
+    ensures others { LeavesOthers key.now timers.old timers.new }
     ensures lines { OnOk result (Appends (K.holds out.old) (K.holds out.new) (text_of (says key.now (run_from program.now place facts.now (shown_cells cells.old)).talk.lines))) }
     ensures part { OnErr result (AppendsSome (K.holds out.old) (K.holds out.new) (text_of (says key.now (run_from program.now place facts.now (shown_cells cells.old)).talk.lines))) }
-    ensures faults { K.faults out.old ≤ K.faults out.new }
-    ensures short { K.short out.old ≤ K.short out.new }
-    ensures cause { HasSinkCause (K.faults out.old) (K.faults out.new) result }
+    ensures counts { OwnCounts (K.counts out.old) (K.counts out.new) result }
+    ensures base { K.base out.new ≡ K.base out.old }
 {
     let Ok(()) = room.begin(program.locals()) else {
         return Err(SinkFault::NoMemory);

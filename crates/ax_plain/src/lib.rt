@@ -5,12 +5,10 @@
 //! writes the block of a barrier.
 #![tactic(auto)]
 
-pub mod agenda;
+mod agenda;
 mod block;
 mod firing;
-pub mod handler;
+mod handler;
 pub mod plain;
-#[cfg(test)]
-mod tests;
 
 pub use plain::PlainThread;

@@ -8,8 +8,9 @@ ghost use Rattle.ax_input.specs.Shown.{shown_event};
 ghost use Rattle.ax_machine.specs.Entries.{text_of};
 ghost use Rattle.ax_machine.specs.Sync.{plain_start, plain_step, row_step, knows, silent};
 ghost use Rattle.ax_lang.specs.Shown.{shown_program, shown_kinds};
-ghost use Rattle.ax_plain.specs.Handler.{shown_run_facts, HasSinkCause, AppendsSome};
-ghost use Rattle.ax_plain.specs.Plain.{groups, shown_plain, run_at, ThreadFits, IsAbsent};
+ghost use Rattle.ax_plain.specs.Handler.{shown_run_facts};
+ghost use Rattle.ax_plain.specs.Plain.{shown_plain, run_at, ThreadFits, IsAbsent, LeavesKeys, LeavesRest};
+ghost use Rattle.ax_base.specs.Outside.{AppendsSome, OwnCounts};
 
 use crate::handler::{Room, RunFacts, run_handler};
 use ax_base::{Duplicate, NoMemory, Sink, SinkFault};
@@ -62,28 +63,32 @@ impl PlainThread {
     }
 
     /// Takes one event: a row runs to its end, at a greater watermark all that is due fires before it is written, and a
-    /// barrier writes the block of what every key has. Each line is written at once.
+    /// barrier writes the block of what every key has, by `groups` key groups. Each line is written at once.
     ///
-    /// Condition: what is held fits the program, as it does behind `new` and stays from event to event of one program.
-    /// After an error the sink took a prefix of the text that the event writes, and the thread is of no more use. `Failed`
-    /// comes only where the sink's count of failures rose.
+    /// Conditions: there are 1 to 32,768 key groups; and what is held fits the program, as it does after `new` and stays from
+    /// event to event of one program. After an error the sink took a prefix of the text that the event writes, and some of what
+    /// the event does was done: what is held still fits, and a row has left each other key alone. `Failed` comes only where the
+    /// sink failed, and `NoMemory` where memory was short here or in the sink.
     pub fn take<K: Sink>(
         &mut self,
         program: &Program,
+        groups: u16,
         event: &Event,
         out: &mut K,
     ) -> Result<(), SinkFault>
-        requires { ThreadFits (shown_kinds program.now) self.old }
-        ensures fits { OnOk result (ThreadFits (shown_kinds program.now) self.new) }
+        requires fits { ThreadFits (shown_kinds program.now) self.old }
+        requires least { 1 ≤ groups }
+        requires most { groups ≤ 32768 }
+        ensures fits { ThreadFits (shown_kinds program.now) self.new }
         ensures steps { OnOk result (shown_plain (shown_kinds program.now) self.new
             ≡ silent (plain_step groups (shown_program program.now) (shown_event event.now) (shown_plain (shown_kinds program.now) self.old))) }
         ensures lines { OnOk result (Appends (K.holds out.old) (K.holds out.new)
             (text_of (plain_step groups (shown_program program.now) (shown_event event.now) (shown_plain (shown_kinds program.now) self.old)).entries)) }
         ensures part { OnErr result (AppendsSome (K.holds out.old) (K.holds out.new)
             (text_of (plain_step groups (shown_program program.now) (shown_event event.now) (shown_plain (shown_kinds program.now) self.old)).entries)) }
-        ensures faults { K.faults out.old ≤ K.faults out.new }
-        ensures short { K.short out.old ≤ K.short out.new }
-        ensures cause { HasSinkCause (K.faults out.old) (K.faults out.new) result }
+        ensures rest { LeavesRest (shown_event event.now) (shown_plain (shown_kinds program.now) self.old).map (shown_plain (shown_kinds program.now) self.new).map }
+        ensures counts { OwnCounts (K.counts out.old) (K.counts out.new) result }
+        ensures base { K.base out.new ≡ K.base out.old }
     {
         match event {
             Event::Row { key, time, values } => self.run_row(
@@ -94,7 +99,7 @@ impl PlainThread {
                 out,
             ),
             Event::Mark { time } => self.pass_watermark(program, time, out),
-            Event::Barrier { id } => self.write_block(program, id, out),
+            Event::Barrier { id } => self.write_block(program, groups, id, out),
         }
     }
 
@@ -108,16 +113,16 @@ impl PlainThread {
         out: &mut K,
     ) -> Result<(), SinkFault>
         requires { ThreadFits (shown_kinds program.now) self.old }
-        ensures fits { OnOk result (ThreadFits (shown_kinds program.now) self.new) }
+        ensures fits { ThreadFits (shown_kinds program.now) self.new }
         ensures steps { OnOk result (shown_plain (shown_kinds program.now) self.new
             ≡ silent (row_step (shown_program program.now) key.now time.now values.now (shown_plain (shown_kinds program.now) self.old))) }
         ensures lines { OnOk result (Appends (K.holds out.old) (K.holds out.new)
             (text_of (row_step (shown_program program.now) key.now time.now values.now (shown_plain (shown_kinds program.now) self.old)).entries)) }
         ensures part { OnErr result (AppendsSome (K.holds out.old) (K.holds out.new)
             (text_of (row_step (shown_program program.now) key.now time.now values.now (shown_plain (shown_kinds program.now) self.old)).entries)) }
-        ensures faults { K.faults out.old ≤ K.faults out.new }
-        ensures short { K.short out.old ≤ K.short out.new }
-        ensures cause { HasSinkCause (K.faults out.old) (K.faults out.new) result }
+        ensures others { LeavesKeys key.now (shown_plain (shown_kinds program.now) self.old).map (shown_plain (shown_kinds program.now) self.new).map }
+        ensures counts { OwnCounts (K.counts out.old) (K.counts out.new) result }
+        ensures base { K.base out.new ≡ K.base out.old }
     {
         let facts = run_facts(time, &self.wm, values);
         if self.run_held(program, program.first(), key, &facts, out)? {
@@ -134,8 +139,9 @@ impl PlainThread {
     fn hold(&mut self, program: &Program, key: &Key) -> Result<(), NoMemory>
         requires fits { ThreadFits (shown_kinds program.now) self.old }
         requires absent { get key_cmp self.old.states key.now ≡ None }
-        ensures fits { OnOk result (ThreadFits (shown_kinds program.now) self.new) }
+        ensures fits { ThreadFits (shown_kinds program.now) self.new }
         ensures knows { OnOk result (shown_plain (shown_kinds program.now) self.new ≡ knows key.now (shown_plain (shown_kinds program.now) self.old)) }
+        ensures others { LeavesKeys key.now (shown_plain (shown_kinds program.now) self.old).map (shown_plain (shown_kinds program.now) self.new).map }
         ensures held { OnOk result (IsSome (get key_cmp self.new.states key.now)) }
     {
         let cells = KeyCells::new(self.alloc, program.decls())?;
@@ -157,7 +163,7 @@ impl PlainThread {
         out: &mut K,
     ) -> Result<bool, SinkFault>
         requires { ThreadFits (shown_kinds program.now) self.old }
-        ensures fits { OnOk result (ThreadFits (shown_kinds program.now) self.new) }
+        ensures fits { ThreadFits (shown_kinds program.now) self.new }
         ensures absent { IfOk result (λ held. held ≡ false → IsAbsent (shown_kinds program.now) key.now self.old self.new (K.holds out.old) (K.holds out.new)) }
         ensures held { IfOk result (λ held. held ≡ true → insert_key key_cmp (keys self.old.states) key.now ≡ keys self.old.states) }
         ensures present { IfOk result (λ held. IsSome (get key_cmp self.old.states key.now) → held ≡ true) }
@@ -167,9 +173,9 @@ impl PlainThread {
             (text_of (run_at program.now place facts.now key.now (shown_plain (shown_kinds program.now) self.old)).entries)) }
         ensures part { OnErr result (AppendsSome (K.holds out.old) (K.holds out.new)
             (text_of (run_at program.now place facts.now key.now (shown_plain (shown_kinds program.now) self.old)).entries)) }
-        ensures faults { K.faults out.old ≤ K.faults out.new }
-        ensures short { K.short out.old ≤ K.short out.new }
-        ensures cause { HasSinkCause (K.faults out.old) (K.faults out.new) result }
+        ensures others { LeavesKeys key.now (shown_plain (shown_kinds program.now) self.old).map (shown_plain (shown_kinds program.now) self.new).map }
+        ensures counts { OwnCounts (K.counts out.old) (K.counts out.new) result }
+        ensures base { K.base out.new ≡ K.base out.old }
     {
         let Some(cells) = self.states.get_mut(key) else {
             return Ok(false);

@@ -9,8 +9,6 @@
 mod block;
 mod place;
 pub mod snapshot;
-#[cfg(test)]
-mod tests;
 pub mod write;
 
 pub use snapshot::{KeySnap, KeySnaps, Snapshot};

@@ -9,6 +9,8 @@ use std::alloc::Global;
 pub struct KeySnap {
     pub key: Key,
     pub cells: KeyCells,
+    /// The event times at which the key's timers are due. A block has a line for each of them in the order of this list, also
+    /// where the states are empty; whoever makes a snapshot lists them rising, each once, as `Timers::times_of` gives them.
     pub timers: Nums,
 }
 

@@ -78,7 +78,8 @@ fn put_keys(
 
 /// The block of a snapshot, where there are `m` key groups: the head, the lines of each key by key group and then by its
 /// bytes, and the end with their number. Of each key come its states in order of their declaration, of which an empty one
-/// has no line, and then its timers. Of a key that stands twice the last counts. `NoMemory` is the only fault.
+/// has no line, and then its timers. Of a key that stands twice the last counts. `NoMemory` is the only fault, and gives no
+/// block.
 ///
 /// Conditions: `m` is 1 to 32,768; at most 256 states are declared, since a state's number is a byte; and each key's states
 /// are of the declared kinds.

@@ -1,3 +1,2 @@
-pub mod Sets
 pub mod Timers
-pub mod Kept
+pub mod Held

@@ -20,32 +20,6 @@ times_of (t ∷ ts) key = if bytes_eq t.key key then t.time ∷ times_of ts key 
 abbrev pub PutsTimes : List Timer → List Timer → List ℕ → List ℤ → Type 0
 PutsTimes old new key times = (q : List ℕ) → times_of new q ≡ (if bytes_eq key q then times else times_of old q)
 
--- timers compared by time, and then by key
-abbrev pub due_cmp : Timer → Timer → Ordering
-due_cmp a b = ordering_then (int_cmp a.time b.time) (key_cmp a.key b.key)
-
 -- timers compared by key, and then by time
 abbrev pub listed_cmp : Timer → Timer → Ordering
 listed_cmp a b = ordering_then (key_cmp a.key b.key) (int_cmp a.time b.time)
-
--- a timer is one of these
-abbrev pub IsTimer : List Timer → Timer → Type 0
-IsTimer timers t = Contains (times_of timers t.key) t.time
-
--- none of the timers has the property
-abbrev pub HasNone : (Timer → Type 0) → (Timer → Type 0) → Type 0
-HasNone Is P = (u : Timer) → Is u → P u → ⊥
-
--- of the timers that have the property it is the one that is due first
-pub record IsFirst (Is P : Timer → Type 0) (t : Timer) : Type 0 where
-  pub is : Is t
-  pub passes : P t
-  pub first : (u : Timer) → Is u → P u → is_lt (due_cmp u t) ≡ false
-
--- its time is the watermark's or an earlier one
-abbrev pub IsDue : ℤ → Timer → Type 0
-IsDue w t = t.time ≤ℤ w
-
--- it is due at the watermark, and comes behind another timer's place
-abbrev pub IsDueBehind : Timer → ℤ → Timer → Type 0
-IsDueBehind place w t = IsDue w t × (due_cmp place t ≡ Less)

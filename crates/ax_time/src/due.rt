@@ -1,46 +1,48 @@
-// The keys by their times: what is due at a watermark.
-ghost use Rattle.std.specs.Prelude.{◌≡◌, ◌≤ℤ◌, ℕ, ℤ, List, true, false, ◌||◌, IfOk, IfSome, OnOk, MatchOption, if◌then◌else◌};
+// The keys that are due at a watermark.
+ghost use Rattle.std.specs.Prelude.{◌≡◌, ℕ, List, length, ◌||◌, IfOk, OnOk};
+ghost use Rattle.std.specs.List.{list_any};
 ghost use Rattle.std.specs.List.Sorted.{IsStrictlySortedBy};
-ghost use Rattle.std.specs.Ordering.{int_cmp};
-ghost use Rattle.std.specs.declared.cmp.Ordering.TheVariants.{Less};
+ghost use Rattle.std.specs.declared.ops.Bound.TheVariants.{Excluded, Unbounded};
 ghost use Rattle.std.specs.BTreeMap.{is_at};
-ghost use Rattle.std.specs.BTreeMap.Range.{IsLeBy};
-ghost use Rattle.std.specs.BTreeSet.{contains};
-ghost use Rattle.ax_time.specs.Sets.{AreSets, has};
+ghost use Rattle.std.specs.BTreeSet.{contains, keys_between};
 ghost use Rattle.ax_keys.specs.Keys.{key_cmp};
-ghost use Rattle.ax_time.specs.Timers.{HasNone, IsDue, IsDueBehind, IsFirst, timer};
-ghost use Rattle.ax_time.specs.Kept.{IsKeptAt, IsLater, any_has, up_to};
-ghost use Rattle.ax_time.specs.declared.timer.Timer.{Timer};
+ghost use Rattle.ax_time.specs.Held.{due_order, names};
 
+use crate::held::ByTime;
 use ax_base::{Duplicate, NoMemory};
 use ax_keys::{Key, Keys};
 use std::alloc::Global;
-use std::collections::{BTreeMap, BTreeSet};
-use std::ops::Bound;
+use std::collections::BTreeSet;
 
-// The keys of all times up to one.
+// The keys of all timers up to a time.
 pub fn due_set(
     alloc: Global,
-    by_time: &BTreeMap<i64, BTreeSet<Key>>,
+    by_time: &ByTime,
+    named: &[Key],
     w: &i64,
 ) -> Result<BTreeSet<Key>, NoMemory>
-    ensures { IfOk result (λ found. (q : List ℕ) → contains key_cmp found q ≡ any_has q (up_to w.now by_time.now)) }
+    ensures { IfOk result (λ found. (q : List ℕ) → contains key_cmp found q ≡ list_any (λ d. names named.now q d.1) (keys_between due_order Unbounded (Excluded (w.now, length named.now)) by_time.now)) }
 {
     let mut found = BTreeSet::new(alloc);
-    for (_, keys) in by_time.range(..=w) {
-        find_keys(alloc, &mut found, keys)?;
+    for due in by_time.range(..(*w, named.len())) {
+        find_named(alloc, &mut found, named, due.1)?;
     }
     Ok(found)
 }
 
-// Puts some keys among those that were found.
-fn find_keys(alloc: Global, found: &mut BTreeSet<Key>, keys: &BTreeSet<Key>) -> Result<(), NoMemory>
-    ensures { OnOk result ((q : List ℕ) → contains key_cmp found.new q ≡ (contains key_cmp found.old q || contains key_cmp keys.now q)) }
+// Puts the key of a number among those that were found.
+fn find_named(
+    alloc: Global,
+    found: &mut BTreeSet<Key>,
+    named: &[Key],
+    number: usize,
+) -> Result<(), NoMemory>
+    ensures { OnOk result ((q : List ℕ) → contains key_cmp found.new q ≡ (contains key_cmp found.old q || names named.now q number)) }
 {
-    for key in keys {
-        find_key(alloc, found, key)?;
+    match named.get(number) {
+        Some(key) => find_key(alloc, found, key),
+        None => Ok(()),
     }
-    Ok(())
 }
 
 // Puts a key among those that were found, unless it is there.
@@ -67,69 +69,4 @@ pub fn list_keys(alloc: Global, keys: BTreeSet<Key>) -> Result<Keys, NoMemory>
         list.push(key)?;
     }
     Ok(list)
-}
-
-// The first time up to one, and the first key at it.
-pub fn first_due<'a>(by_time: &'a BTreeMap<i64, BTreeSet<Key>>, w: &i64) -> Option<(i64, &'a Key)>
-    requires { AreSets int_cmp key_cmp by_time.now }
-    ensures { MatchOption result (HasNone (IsKeptAt by_time.now) (IsDue w.now)) (λ r. IsFirst (IsKeptAt by_time.now) (IsDue w.now) (timer r.1.now r.0)) }
-{
-    let (time, keys) = by_time.range(..=w).next()?;
-    let key = keys.first()?;
-    let time = *time;
-    Some((time, key))
-}
-
-// The first place behind a time and a key, up to a time.
-pub fn next_due<'a>(
-    by_time: &'a BTreeMap<i64, BTreeSet<Key>>,
-    time: &i64,
-    key: &Key,
-    w: &i64,
-) -> Option<(i64, &'a Key)>
-    requires { AreSets int_cmp key_cmp by_time.now }
-    ensures { MatchOption result (HasNone (IsKeptAt by_time.now) (IsDueBehind (timer key.now time.now) w.now)) (λ r. IsFirst (IsKeptAt by_time.now) (IsDueBehind (timer key.now time.now) w.now) (timer r.1.now r.0)) }
-{
-    if *time > *w {
-        return None;
-    }
-    match later_key(by_time, time, key) {
-        Some(other) => {
-            let time = *time;
-            Some((time, other))
-        }
-        None => first_later(by_time, time, w),
-    }
-}
-
-// The first key behind a key, at one time.
-fn later_key<'a>(
-    by_time: &'a BTreeMap<i64, BTreeSet<Key>>,
-    time: &i64,
-    key: &Key,
-) -> Option<&'a Key>
-    ensures none { MatchOption result ((q : List ℕ) → has int_cmp key_cmp by_time.now time.now q ≡ true → key_cmp key.now q ≡ Less → ⊥) (λ k. has int_cmp key_cmp by_time.now time.now k.now ≡ true) }
-    ensures later { IfSome result (λ k. key_cmp key.now k.now ≡ Less) }
-    ensures least { IfSome result (λ k. (q : List ℕ) → has int_cmp key_cmp by_time.now time.now q ≡ true → key_cmp key.now q ≡ Less → IsLeBy key_cmp k.now q) }
-{
-    let keys = by_time.get(time)?;
-    keys.range((Bound::Excluded(key), Bound::Unbounded)).next()
-}
-
-// The first time behind one and up to another, and the first key at it.
-fn first_later<'a>(
-    by_time: &'a BTreeMap<i64, BTreeSet<Key>>,
-    time: &i64,
-    w: &i64,
-) -> Option<(i64, &'a Key)>
-    requires sets { AreSets int_cmp key_cmp by_time.now }
-    requires order { time.now ≤ℤ w.now }
-    ensures { MatchOption result (HasNone (IsKeptAt by_time.now) (IsLater time.now w.now)) (λ r. IsFirst (IsKeptAt by_time.now) (IsLater time.now w.now) (timer r.1.now r.0)) }
-{
-    let (time, keys) = by_time
-        .range((Bound::Excluded(time), Bound::Included(w)))
-        .next()?;
-    let key = keys.first()?;
-    let time = *time;
-    Some((time, key))
 }

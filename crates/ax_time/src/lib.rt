@@ -3,14 +3,12 @@
 //! - `timers`: `Timers`, the timers of all keys, kept by key and by time.
 //! - `timer`: `Timer`, one of them, and the list `TimerList`.
 //!
-//! The private module `sets` has the sets under keys of which both orders are made, and `due` looks for
-//! the timers that are due.
+//! The private module `kept` has both orders, `held` what is held of one key, and `due` looks for the keys that are due.
 #![tactic(auto)]
 
 mod due;
-mod sets;
-#[cfg(test)]
-mod tests;
+mod held;
+mod kept;
 pub mod timer;
 pub mod timers;
 

@@ -1,16 +1,16 @@
 //! The timers of all keys.
-ghost use Rattle.std.specs.Prelude.{◌≡◌, ℕ, ℤ, List, [], ◌++◌, OnOk, OnErr, IfOk, IfNone, IfSome, FitsSigned, ◌↔◌};
-ghost use Rattle.std.specs.Int.{w64};
+ghost use Rattle.std.specs.Prelude.{◌≡◌, ℕ, ℤ, List, [], ◌++◌, OnOk, OnErr, IfOk, ◌↔◌};
 ghost use Rattle.std.specs.List.{Contains};
 ghost use Rattle.std.specs.List.Sorted.{IsStrictlySortedBy};
 ghost use Rattle.std.specs.Ordering.{int_cmp};
 ghost use Rattle.ax_text.specs.Times.{insert_time, remove_time, least_time, later_times, HasDue};
 ghost use Rattle.ax_keys.specs.Keys.{key_cmp};
-ghost use Rattle.ax_time.specs.Timers.{HasNone, IsDue, IsDueBehind, IsFirst, IsTimer, PutsTimes, listed_cmp, timer, times_of};
-ghost use Rattle.ax_time.specs.Kept.{listed, timers_at};
+ghost use Rattle.ax_time.specs.Timers.{PutsTimes, listed_cmp, times_of};
+ghost use Rattle.ax_time.specs.Held.{listed, timers_at};
 
-use crate::due::{due_set, first_due, list_keys, next_due};
-use crate::sets::{add, has, take_out};
+use crate::due::{due_set, list_keys};
+use crate::held::Held;
+use crate::kept::Kept;
 use crate::timer::{Timer, TimerList};
 use ax_base::{Duplicate, NoMemory, Nums};
 use ax_keys::{Key, Keys};
@@ -20,14 +20,12 @@ use std::marker::Model;
 
 /// The timers of all keys, which contracts see as a list by key and then time. A key has a timer at a time once or not at all.
 ///
-/// No call walks over all keys to answer for one: each takes logarithmic time, but for the lists, which take time by what they name.
+/// No call walks over all keys to answer for one: `set`, `unset`, `least_of` and `take_least` take logarithmic time, `times_of`
+/// and `due_keys` time by what they name, and `all` time by the keys that ever had a timer. A key that had one keeps its room.
 #[derive(Debug, Drop)]
 pub struct Timers {
     alloc: Global,
-    // the times of each key
-    by_key: BTreeMap<Key, BTreeSet<i64>>,
-    // the keys of each time
-    by_time: BTreeMap<i64, BTreeSet<Key>>,
+    kept: Kept,
 }
 
 impl Model for Timers {
@@ -36,11 +34,11 @@ impl Model for Timers {
 
     ghost Value = { List Timer };
 
-    ghost use Rattle.ax_time.specs.Kept.{timers_in, IsKept};
+    ghost use Rattle.ax_time.specs.Held.{Agree, timers_in};
 
-    ghost view = { timers_in };
+    ghost view = { λ t. timers_in t.kept };
 
-    ghost invariant = { IsKept };
+    ghost invariant = { λ t. Agree t.kept };
 }
 
 impl Timers {
@@ -50,8 +48,11 @@ impl Timers {
     {
         Timers {
             alloc,
-            by_key: BTreeMap::new(alloc),
-            by_time: BTreeMap::new(alloc),
+            kept: Kept {
+                by_key: BTreeMap::new(alloc),
+                named: Vec::new(alloc),
+                by_time: BTreeSet::new(alloc),
+            },
         }
     }
 
@@ -68,15 +69,7 @@ impl Timers {
         ensures ok { OnOk result (PutsTimes self.old self.new key.now (insert_time time.now (times_of self.old key.now))) }
         ensures err { OnErr result (self.new ≡ self.old) }
     {
-        if has(&self.by_key, key, time) {
-            return Ok(());
-        }
-        add(self.alloc, &mut self.by_time, time, key)?;
-        let Err(NoMemory) = add(self.alloc, &mut self.by_key, key, time) else {
-            return Ok(());
-        };
-        take_out(&mut self.by_time, time, key);
-        Err(NoMemory)
+        self.kept.set(self.alloc, key, time)
     }
 
     /// Takes a timer off. One that isn't set changes nothing.
@@ -90,8 +83,7 @@ impl Timers {
     fn unset_at(&mut self, key: &Key, time: &i64)
         ensures { PutsTimes self.old self.new key.now (remove_time time.now (times_of self.old key.now)) }
     {
-        take_out(&mut self.by_key, key, time);
-        take_out(&mut self.by_time, time, key);
+        self.kept.unset(key, time);
     }
 
     /// The least time of a key's timers, and `None` exactly where it has none.
@@ -99,19 +91,7 @@ impl Timers {
         ensures least { result ≡ least_time (times_of self.now key.now) }
         ensures rising { IsStrictlySortedBy int_cmp (times_of self.now key.now) }
     {
-        self.least_at(key)
-    }
-
-    // The same, of which the time is known to have 64 bits.
-    fn least_at(&self, key: &Key) -> Option<i64>
-        ensures least { result ≡ least_time (times_of self.now key.now) }
-        ensures rising { IsStrictlySortedBy int_cmp (times_of self.now key.now) }
-        ensures fits { IfSome result (λ t. FitsSigned w64 t) }
-    {
-        match self.by_key.get(key) {
-            Some(times) => first_time(times),
-            None => None,
-        }
+        self.kept.least_of(key)
     }
 
     /// Takes off the timer of a key that has the least time, and gives that time. `None` exactly where the key has none.
@@ -119,9 +99,7 @@ impl Timers {
         ensures least { result ≡ least_time (times_of self.old key.now) }
         ensures times { PutsTimes self.old self.new key.now (later_times (times_of self.old key.now)) }
     {
-        let time = self.least_at(key)?;
-        self.unset(key, time);
-        Some(time)
+        self.kept.take_least(key)
     }
 
     /// The times of a key's timers, rising.
@@ -129,8 +107,8 @@ impl Timers {
         ensures times { IfOk result (λ times. times ≡ times_of self.now key.now) }
         ensures rising { IfOk result (λ times. IsStrictlySortedBy int_cmp times) }
     {
-        match self.by_key.get(key) {
-            Some(times) => list_times(alloc, times),
+        match self.kept.by_key.get(key) {
+            Some(held) => list_times(alloc, &held.times),
             None => Ok(Nums::new(alloc)),
         }
     }
@@ -140,7 +118,7 @@ impl Timers {
         ensures timers { IfOk result (λ timers. timers ≡ self.now) }
         ensures rising { IfOk result (λ timers. IsStrictlySortedBy listed_cmp timers) }
     {
-        list_all(alloc, &self.by_key)
+        list_all(alloc, &self.kept.by_key)
     }
 
     /// The keys with a timer at or below a watermark, rising by their bytes, each once. Takes time by the timers that are due.
@@ -148,37 +126,8 @@ impl Timers {
         ensures due { IfOk result (λ keys. (q : List ℕ) → Contains keys q ↔ HasDue w (times_of self.now q)) }
         ensures rising { IfOk result (λ keys. IsStrictlySortedBy key_cmp keys) }
     {
-        let due = due_set(alloc, &self.by_time, &w)?;
+        let due = due_set(alloc, &self.kept.by_time, self.kept.named.as_slice(), &w)?;
         list_keys(alloc, due)
-    }
-
-    /// The time and the key of the timer that is due first at a watermark: the least by time and then by key. `None` exactly
-    /// where no timer is due.
-    pub fn least_due(&self, w: i64) -> Option<(i64, &Key)>
-        ensures none { IfNone result (HasNone (IsTimer self.now) (IsDue w)) }
-        ensures first { IfSome result (λ r. IsFirst (IsTimer self.now) (IsDue w) (timer r.1.now r.0)) }
-    {
-        first_due(&self.by_time, &w)
-    }
-
-    /// The same of the timers behind a place: those of a later time, and those of this time and a later key. At the place a
-    /// timer need not be set. So a caller goes on behind a timer that it doesn't fire.
-    pub fn next_due(&self, time: i64, key: &Key, w: i64) -> Option<(i64, &Key)>
-        ensures none { IfNone result (HasNone (IsTimer self.now) (IsDueBehind (timer key.now time) w)) }
-        ensures first { IfSome result (λ r. IsFirst (IsTimer self.now) (IsDueBehind (timer key.now time) w) (timer r.1.now r.0)) }
-    {
-        next_due(&self.by_time, &time, key, &w)
-    }
-}
-
-// The least of some times.
-fn first_time(times: &BTreeSet<i64>) -> Option<i64>
-    ensures least { result ≡ least_time times.now.keys }
-    ensures fits { IfSome result (λ t. FitsSigned w64 t) }
-{
-    match times.first() {
-        Some(time) => Some(*time),
-        None => None,
     }
 }
 
@@ -202,12 +151,12 @@ fn copy_times(list: &mut Nums, times: &BTreeSet<i64>) -> Result<(), NoMemory>
 }
 
 // A list of all timers.
-fn list_all(alloc: Global, by_key: &BTreeMap<Key, BTreeSet<i64>>) -> Result<TimerList, NoMemory>
+fn list_all(alloc: Global, by_key: &BTreeMap<Key, Held>) -> Result<TimerList, NoMemory>
     ensures { IfOk result (λ timers. timers ≡ listed by_key.now.entries) }
 {
     let mut timers = TimerList::new(alloc);
-    for (key, times) in by_key {
-        list_timers(alloc, &mut timers, key, times)?;
+    for (key, held) in by_key {
+        list_timers(alloc, &mut timers, key, &held.times)?;
     }
     Ok(timers)
 }

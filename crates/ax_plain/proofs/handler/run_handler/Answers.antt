@@ -1,4 +1,4 @@
-use Rattle.std.proofs.Common.{◌∙◌, ap, arith, pos, length}
+use Rattle.std.proofs.Common.{◌∙◌, ap, pos, length, refl}
 use Rattle.std.proofs.lemmas.List.{length-replicate}
 use Rattle.ax_state.specs.KeyCells.{shown_cells}
 use Rattle.ax_lang.specs.Steps.{shown_statement}
@@ -13,8 +13,9 @@ step-init g c = record {
       (ap shown_locals c.in-Ok.ensures ∙ names_zero c.locals.result);
   locals = ap length c.in-Ok.ensures ∙ length-replicate c.locals.result (pos 0) ∙ c.locals.ensures.value;
   kinds = c.requires;
-  faults = omega arith;
-  short = omega arith;
+  others = λ q e. refl;
+  counts = refl;
+  base = refl;
 }
 
 pub step-preserved : goal.step-preserved
@@ -31,9 +32,13 @@ step-preserved g c =
           before.gone c.in-Some.ensures.0 ran.names ran.cells ran.times ran.lines;
       locals = ran.locals ∙ before.locals;
       kinds = ran.kinds ∙ before.kinds;
-      faults = omega (arith, before.faults, ran.faults);
-      short = omega (arith, before.short, ran.short);
+      others = λ q e. ran.others q e ∙ before.others q e;
+      counts = ran.counts ∙ before.counts;
+      base = ran.base ∙ before.base;
     }
+
+pub returns-in_err-run_stmt-clause-others : goal.returns-in_err-run_stmt-clause-others
+returns-in_err-run_stmt-clause-others g c = λ q e. c.in_err-run_stmt.ensures.others q e ∙ c.step.invariant.others q e
 
 pub returns-in_err-run_stmt-clause-part : goal.returns-in_err-run_stmt-clause-part
 returns-in_err-run_stmt-clause-part g c =

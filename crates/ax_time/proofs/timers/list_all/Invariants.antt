@@ -1,5 +1,5 @@
 use Rattle.std.proofs.Common.{◌≡◌, ◌++◌}
-use Rattle.ax_time.specs.Kept.{listed}
+use Rattle.ax_time.specs.Held.{listed}
 use Rattle.ax_time.proofs.timers.list_all.Given as goal
 
 abbrev pub invariant-loop-key : goal.invariant-loop-key

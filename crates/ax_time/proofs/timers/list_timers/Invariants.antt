@@ -1,5 +1,5 @@
 use Rattle.std.proofs.Common.{◌≡◌, ◌++◌}
-use Rattle.ax_time.specs.Kept.{timers_at}
+use Rattle.ax_time.specs.Held.{timers_at}
 use Rattle.ax_time.proofs.timers.list_timers.Given as goal
 
 abbrev pub invariant-loop-time : goal.invariant-loop-time

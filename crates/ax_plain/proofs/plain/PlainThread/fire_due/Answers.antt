@@ -1,4 +1,4 @@
-use Rattle.std.proofs.Common.{◌∙◌, ◌-◌, ℤ, FitsSigned, w64, rules, arith, ap, sym, subst}
+use Rattle.std.proofs.Common.{◌∙◌, ◌-◌, ℤ, FitsSigned, w64, rules, arith, ap, refl, sym, subst}
 use Rattle.std.proofs.Math.Facts.{to_z-of_z}
 use Rattle.std.specs.BTreeMap.{keys}
 use Rattle.ax_time.specs.Timers.{times_of}
@@ -22,8 +22,8 @@ due-init g c =
           (subst L (to_z-of_z fits ∙ sym c.requires.mark) c.in-Ok.ensures);
       fits = c.requires.fits;
       mark = c.requires.mark;
-      faults = omega arith;
-      short = omega arith;
+      counts = refl;
+      base = refl;
     }
 
 pub fire-requires-clause-first : goal.fire-requires-clause-first
@@ -66,8 +66,8 @@ due-preserved g c =
           ran.steps ran.lines (c.in-Some.ensures.rest t.wm f.more (times_of t.timers) f.lists) c.least_of-least.ensures.least (subst P (to_z-of_z fits ∙ sym mark) c.in-Ok-put.ensures.ok);
       fits = ran.fits;
       mark = ap (λ (x : Plain). x.wm) ran.steps ∙ mark;
-      faults = omega (arith, c.due.invariant.faults, ran.faults);
-      short = omega (arith, c.due.invariant.short, ran.short);
+      counts = ran.counts ∙ c.due.invariant.counts;
+      base = ran.base ∙ c.due.invariant.base;
     }
 
 pub returns-in_default-put-clause-part : goal.returns-in_default-put-clause-part

@@ -1,4 +1,4 @@
-use Rattle.std.proofs.Common.{◌≡◌, ◌≤◌}
+use Rattle.std.proofs.Common.{◌≡◌}
 use Rattle.ax_machine.specs.Sync.{all_fired}
 use Rattle.ax_lang.specs.Shown.{shown_program, shown_kinds}
 use Rattle.ax_plain.specs.Agenda.{firings_left}
@@ -11,8 +11,8 @@ invariant-due g l = record {
   firing : Firing (shown_program l.program) (all_fired (shown_program l.program) (shown_plain (shown_kinds l.program) l.fn.self)) (g.K.Sink.holds l.fn.out) (g.K.Sink.holds l.out) (shown_plain (shown_kinds l.program) l.self) l.agenda;
   fits : ThreadFits (shown_kinds l.program) l.self;
   mark : l.self.wm ≡ l.time;
-  faults : g.K.Sink.faults l.fn.out ≤ g.K.Sink.faults l.out;
-  short : g.K.Sink.short l.fn.out ≤ g.K.Sink.short l.out;
+  counts : g.K.Sink.counts l.out ≡ g.K.Sink.counts l.fn.out;
+  base : g.K.Sink.base l.out ≡ g.K.Sink.base l.fn.out;
 }
 
 abbrev pub decreases-due : goal.decreases-due

@@ -4,7 +4,7 @@ use mathlib.Core.Path.{fun_ext}
 use Rattle.ax_text.specs.Programs.{untouched}
 use Rattle.ax_keys.specs.Keys.{key_cmp}
 use Rattle.ax_machine.specs.Entries.{Key}
-use Rattle.ax_machine.specs.Sync.{knows}
+use Rattle.ax_machine.specs.Sync.{Plain, knows}
 use Rattle.ax_lang.specs.Shown.{shown_kinds}
 use Rattle.ax_plain.specs.Plain.{map_of}
 use Rattle.ax_plain.proofs.ThreadLemmas.{held_plain, plain}
@@ -21,3 +21,6 @@ returns-in-Ok-clause-knows c =
     let P : Key → Type 0 = λ k. plain c.args.self.now.wm (keys n) (map_of kinds n t) ≡ knows k (plain c.args.self.now.wm (keys m) (map_of kinds m t)) in
     subst P c.in_ok-key.ensures (held_plain kinds m n t key c.in_ok-cells.cells none (c.in-Ok.ensures.updates).0 c.args.self.now.wm c.in-Ok.ensures.entries
     (fun_ext c.in_ok-cells.ensures.untouched ∙ ap untouched c.decls.ensures.kinds))
+
+pub returns-in-Ok-clause-others : goal.returns-in-Ok-clause-others
+returns-in-Ok-clause-others c = λ q e. ap (λ (x : Plain). x.map q) (returns-in-Ok-clause-knows c)

@@ -4,7 +4,7 @@ use Rattle.std.specs.Io.KnownBytes.{Appends}
 use Rattle.ax_machine.specs.Entries.{Entry, Mark, Watermark, text_of}
 use Rattle.ax_machine.specs.Sync.{all_fired, at_watermark}
 use Rattle.ax_lang.specs.Shown.{shown_program, shown_kinds}
-use Rattle.ax_plain.specs.Handler.{AppendsSome}
+use Rattle.ax_base.specs.Outside.{AppendsSome}
 use Rattle.ax_plain.specs.Plain.{shown_plain}
 use Rattle.ax_plain.proofs.RunLemmas.{at_err, on_err, AppendsSome-all}
 use Rattle.ax_plain.proofs.FireLemmas.{front_some, marked, marked_some}

@@ -3,7 +3,7 @@ use Rattle.std.proofs.Math.Facts.{to_z-of_z}
 use Rattle.ax_machine.specs.Entries.{Watermark, text_of}
 use Rattle.ax_machine.specs.Sync.{all_fired, at_watermark, writes}
 use Rattle.ax_lang.specs.Shown.{shown_program, shown_kinds}
-use Rattle.ax_plain.specs.Handler.{AppendsSome}
+use Rattle.ax_base.specs.Outside.{AppendsSome}
 use Rattle.ax_plain.specs.Plain.{shown_plain}
 use Rattle.ax_plain.proofs.RunLemmas.{on_err}
 use Rattle.ax_plain.proofs.plain.PlainThread.pass_watermark.Goals as goal

@@ -1,5 +1,5 @@
 use Rattle.std.proofs.Common.{◌∙◌, ℕ, List, subst}
-use Rattle.ax_plain.specs.Handler.{AppendsSome}
+use Rattle.ax_base.specs.Outside.{AppendsSome}
 use Rattle.ax_plain.proofs.RunLemmas.{on_err}
 use Rattle.ax_plain.proofs.plain.PlainThread.write_block.Goals as goal
 

@@ -5,4 +5,4 @@ use Rattle.ax_time.proofs.KeptLemmas.{listed_rises, if_ok}
 use Rattle.ax_time.proofs.timers.Timers.all.Goals as goal
 
 pub returns-clause-rising : goal.returns-clause-rising
-returns-clause-rising c = if_ok c.list_all.result (λ ts e. subst (IsStrictlySortedBy listed_cmp) (sym (e ∙ c.self.view_is)) (listed_rises c.self.inside.by_key c.self.invariant.keys _ c.self.view_is)) c.list_all.ensures
+returns-clause-rising c = if_ok c.list_all.result (λ ts e. subst (IsStrictlySortedBy listed_cmp) (sym e) (listed_rises c.self.inside.kept c.self.invariant)) c.list_all.ensures
