@@ -22,8 +22,6 @@ pub mod memory;
 pub mod numbers;
 pub mod outside;
 pub mod stream;
-#[cfg(test)]
-mod tests;
 mod window;
 pub mod words;
 

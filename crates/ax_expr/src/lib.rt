@@ -5,8 +5,6 @@
 
 pub mod laws;
 pub mod read;
-#[cfg(test)]
-mod tests;
 pub mod tree;
 pub mod value;
 

@@ -13,6 +13,3 @@ pub use laws::{expression_law, program_is_valid};
 pub use program::Program;
 pub use reader::{ProgFault, SectionEnd, read_program};
 pub use step::{Handlers, Step, Stmt};
-
-#[cfg(test)]
-mod tests;

@@ -4,7 +4,6 @@
 pub mod cells;
 pub mod decls;
 pub mod laws;
-mod tests;
 
 pub use ax_text::{Answer, Kind, Request};
 pub use cells::KeyCells;

@@ -6,6 +6,3 @@ pub mod words;
 
 pub use ax_text::Keyword;
 pub use shape::{KindWord, Shape};
-
-#[cfg(test)]
-mod tests;

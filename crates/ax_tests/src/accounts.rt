@@ -1,6 +1,5 @@
 //! Runs of the accounts of keys, beside plain lists.
-use ax_account::Accounting;
-use ax_account::{MOST_FIRINGS, Next, Occupied};
+use ax_account::{Accounting, MOST_FIRINGS, Next, Occupied};
 use ax_base::NoMemory;
 use ax_context::{Contexts, Id};
 use ax_keys::Key;

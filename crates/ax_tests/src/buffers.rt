@@ -1,9 +1,8 @@
 //! Batches of the request buffer, and a longer run beside a plain list.
 ghost use Rattle.std.specs.Prelude.{◌≡◌, ◌<◌, length};
 
-use ax_buffer::RequestBuffer;
-use ax_buffer::Item;
 use ax_base::NoMemory;
+use ax_buffer::{Item, RequestBuffer};
 use ax_context::{Contexts, Id};
 use ax_keys::Key;
 use ax_state::Request;

@@ -2,8 +2,7 @@
 ghost use Rattle.std.specs.Prelude.{◌<◌, vec_len};
 ghost use Rattle.ax_context.specs.Slots.{IsLive, IsPaid};
 
-use ax_context::{Contexts, Released};
-use ax_context::Id;
+use ax_context::{Contexts, Id, Released};
 use std::alloc::AllocError;
 use std::test::Fail;
 

@@ -1,7 +1,6 @@
 //! Worked values of keys and key groups.
-use ax_keys::{group, index_of_group, range_of_index, spread};
-use ax_keys::Key;
 use ax_base::Duplicate;
+use ax_keys::{Key, group, index_of_group, range_of_index, spread};
 use std::cmp::Ordering;
 use std::process::Abort;
 use std::test::Fail;

@@ -12,10 +12,14 @@ mod events;
 #[cfg(test)]
 mod expect;
 #[cfg(test)]
+mod exprs;
+#[cfg(test)]
 mod failing;
 #[cfg(test)]
 mod faulty;
 pub mod inputs;
+#[cfg(test)]
+mod kept_timers;
 #[cfg(test)]
 mod keys;
 #[cfg(test)]
@@ -26,6 +30,14 @@ mod mailboxes;
 mod outside;
 #[cfg(test)]
 mod programs;
+#[cfg(test)]
+mod sections;
+#[cfg(test)]
+mod shapes;
+#[cfg(test)]
+mod states;
+#[cfg(test)]
+mod streams;
 #[cfg(test)]
 mod texts;
 #[cfg(test)]

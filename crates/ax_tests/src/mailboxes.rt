@@ -1,8 +1,7 @@
 //! Runs of posts and takes of a mailbox.
-use ax_mailbox::Mail;
-use ax_mailbox::Mailbox;
 use ax_base::NoMemory;
 use ax_context::{Contexts, Id};
+use ax_mailbox::{Mail, Mailbox};
 use ax_state::Answer;
 use std::alloc::Global;
 use std::test::Fail;

@@ -1,11 +1,9 @@
 //! Worked lines: each form of an event and of an output line both ways, and lines that are none.
-use ax_input::{Event, EventFault, is_skipped, read_event};
-use ax_input::{OutLine, SnapLine};
-use ax_input::read_out_line;
-use ax_input::{
-    put_end, put_event, put_head, put_out, put_out_line, put_timer, put_value, put_watermark,
-};
 use ax_base::{Bytes, Nums};
+use ax_input::{
+    Event, EventFault, OutLine, SnapLine, is_skipped, put_end, put_event, put_head, put_out,
+    put_out_line, put_timer, put_value, put_watermark, read_event, read_out_line,
+};
 use ax_keys::Key;
 use std::alloc::Global;
 use std::test::Fail;

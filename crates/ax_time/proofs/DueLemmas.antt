@@ -105,8 +105,8 @@ due_seen a h w found ks same all q = (to, from) where
       let there : contains due_order a.by_time (t, held.number) ≡ true = h.same t held.number ∙ ap (λ r. has_at a.by_key r t) place ∙ ap (λ o. list_any (is_at (int_cmp t)) (times_or o)) e ∙ f in
       let mine : names a.named.items q held.number ≡ true = ap (is_named q) place ∙ ap is_eq (tied_itself nat_list_cmp_total q) in
       subst (λ l. Contains l q) (sym same) (Contains-from_any (tells_apart exact_bytes) q found.keys
-          (all q ∙ passes_any (λ x y. is_at (due_order x) y) (range_contains due_order Unbounded (Excluded (w, length a.named.items))) (λ d. names a.named.items q d.1)
-              (tells_apart (exact_pairs int_cmp nat_cmp exact_signed exact_unsigned)) (t, held.number) (within_due w t (length a.named.items) held.number le (slice_get_within a.named.items held.number q place)) mine a.by_time.keys there))
+      (all q ∙ passes_any (λ x y. is_at (due_order x) y) (range_contains due_order Unbounded (Excluded (w, length a.named.items))) (λ d. names a.named.items q d.1)
+      (tells_apart (exact_pairs int_cmp nat_cmp exact_signed exact_unsigned)) (t, held.number) (within_due w t (length a.named.items) held.number le (slice_get_within a.named.items held.number q place)) mine a.by_time.keys there))
 
   from : HasDue w (times_of (timers_in a) q) → Contains ks q
   from d = from_held d.0 d.2 (get key_cmp a.by_key q) refl (list_any-from_Contains (eq_by_cmp_equiv int_cmp_total) d.0 (kept_times a.by_key q) (subst (λ ts. Contains ts d.0) (sym (times_seen a h q)) d.1))

@@ -26,4 +26,4 @@ returns-clause-undue c =
     let came : Makes true c.args.time.now c.args.held.now.number c.args.by_time.now c.insert.new.self = search rules in
     let went : Makes false c.args.time.now c.args.held.now.number c.insert.new.self c.remove.new.self = search rules in
     λ q. went q ∙ ap (cond (is_at (due_order (c.args.time.now, c.args.held.now.number)) q) false) (came q)
-        ∙ back_again (exact_pairs int_cmp nat_cmp exact_signed exact_unsigned) (c.args.time.now, c.args.held.now.number) q c.args.by_time.now.keys gone
+    ∙ back_again (exact_pairs int_cmp nat_cmp exact_signed exact_unsigned) (c.args.time.now, c.args.held.now.number) q c.args.by_time.now.keys gone

@@ -17,4 +17,4 @@ returns-clause-due c =
     let All : ℤ → List (List ℕ) → Type 0 = λ w ns. (q : List ℕ) → contains key_cmp c.in_ok-due.due q ≡ list_any (λ d. names ns q d.1) (keys_between due_order Unbounded (Excluded (w, length ns)) kept.by_time) in
     let all : All c.args.w kept.named.items = subst (All c.args.w) c.as_slice.ensures.value (subst (λ w. All w c.as_slice.result.now) (to_z-of_z c.ranges.w) c.in_ok-due.ensures) in
     if_ok c.list_keys.result (λ ks same q.
-        subst (λ v. Contains ks q ↔ HasDue c.args.w (times_of v q)) c.self.view_is (due_seen kept c.self.invariant c.args.w c.in_ok-due.due ks same all q)) c.list_keys.ensures.keys
+    subst (λ v. Contains ks q ↔ HasDue c.args.w (times_of v q)) c.self.view_is (due_seen kept c.self.invariant c.args.w c.in_ok-due.due ks same all q)) c.list_keys.ensures.keys

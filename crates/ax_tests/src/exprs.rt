@@ -1,5 +1,5 @@
 //! Expressions as they are written, with their values.
-use crate::{Expr, Refusal, Scope, Token, read_expr};
+use ax_expr::{Expr, Refusal, Scope, Token, read_expr};
 use ax_text::{Atom, Op};
 use std::alloc::Global;
 

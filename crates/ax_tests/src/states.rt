@@ -3,9 +3,9 @@ ghost use Rattle.std.specs.Prelude.{◌≡◌};
 ghost use Rattle.ax_state.specs.Decls.{kinds};
 ghost use Rattle.ax_state.specs.KeyCells.{cell_kinds};
 
-use crate::cells::KeyCells;
-use crate::decls::{Decl, Decls, fits};
 use ax_base::{Bytes, Duplicate, NoMemory};
+use ax_state::cells::KeyCells;
+use ax_state::decls::{Decl, Decls, fits};
 use ax_text::{Answer, Kind, Request};
 use std::alloc::Global;
 use std::test::Fail;

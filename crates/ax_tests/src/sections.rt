@@ -1,8 +1,8 @@
 //! Programs and their first faults.
-use crate::program::Program;
-use crate::reader::{ProgFault, SectionEnd, read_program};
-use crate::step::Stmt;
 use ax_base::{Bytes, Line, ListOf, NoMemory};
+use ax_lang::program::Program;
+use ax_lang::reader::{ProgFault, SectionEnd, read_program};
+use ax_lang::step::Stmt;
 use std::alloc::Global;
 
 fn add(lines: &mut Vec<Line>, text: Bytes) -> Result<(), NoMemory> {

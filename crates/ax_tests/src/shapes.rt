@@ -1,9 +1,9 @@
 //! Lines and the shapes that they have.
-use crate::shape::{KindWord, Shape, first_part, is_expr, is_exprs, shape_of};
-use crate::words::{
+use ax_base::{Bytes, NoMemory};
+use ax_syntax::shape::{KindWord, Shape, first_part, is_expr, is_exprs, shape_of};
+use ax_syntax::words::{
     field_number, is_name, is_operand, is_value_word, keyword_of, same, sign_of, words,
 };
-use ax_base::{Bytes, NoMemory};
 use ax_text::{Keyword, Op};
 use std::alloc::Global;
 

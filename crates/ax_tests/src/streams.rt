@@ -2,13 +2,13 @@
 //! for.
 ghost use Rattle.std.specs.Prelude.{None};
 
-use crate::lines::{LineFault, Lines};
-use crate::lists::{Bytes, Duplicate, ListOf, Nums, Pair, Pairs};
-use crate::memory::{MemSink, MemSource, SureSink, SureSource};
-use crate::numbers::{put_i64, read_i64};
-use crate::outside::{Failed, NoMemory, Sink, SinkFault, Source, write_all};
-use crate::stream::{ReadSource, WriteSink};
-use crate::words::{first_word, split_words};
+use ax_base::lines::{LineFault, Lines};
+use ax_base::lists::{Bytes, Duplicate, ListOf, Nums, Pair, Pairs};
+use ax_base::memory::{MemSink, MemSource, SureSink, SureSource};
+use ax_base::numbers::{put_i64, read_i64};
+use ax_base::outside::{Failed, NoMemory, Sink, SinkFault, Source, write_all};
+use ax_base::stream::{ReadSource, WriteSink};
+use ax_base::words::{first_word, split_words};
 use std::alloc::Global;
 use std::process::Abort;
 use std::test::Fail;
