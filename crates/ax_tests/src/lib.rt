@@ -35,6 +35,8 @@ mod sections;
 #[cfg(test)]
 mod shapes;
 #[cfg(test)]
+mod snapshots;
+#[cfg(test)]
 mod states;
 #[cfg(test)]
 mod streams;

@@ -19,7 +19,7 @@ write_snapshot-requires-clause-fits c =
     let t = c.args.self.now in
     let P : List KeySnap → List Kind → Type 0 = λ snaps ks. All (λ (k : KeySnap). cells.cell_kinds k.cells ≡ ks) snaps in
     subst (P c.in_ok-snap_keys.field-0) (sym c.decls.ensures.kinds) (subst (λ (snaps : List KeySnap). P snaps kinds) (sym c.in_ok-snap_keys.ensures.snaps)
-    (fits_snapped kinds t.states t.timers c.requires t.states.entries c.in_ok-snap_keys.ensures.found))
+    (fits_snapped kinds t.states t.timers c.requires.fits t.states.entries c.in_ok-snap_keys.ensures.found))
 
 pub returns : goal.returns
 returns c =
