@@ -1,5 +1,8 @@
 -- What the words of the command line bring.
-use Rattle.std.specs.Prelude.{◌≡◌, ℕ, ◌-◌, ◌<◌, Result, Ok, Err, ◌⊎◌}
+use Rattle.std.specs.Prelude.{◌≡◌, List, drop, Option, None, Result, Ok, Err}
+use Rattle.ax_words.specs.Words.{Text}
+use Rattle.ax_words.specs.Options.{options_of}
+use Rattle.ax_words.specs.declared.options.Options.{Options}
 use Rattle.std_io.specs.declared.io.kind.ErrorKind.{ErrorKind}
 use Rattle.std_io.specs.declared.io.kind.ErrorKind.TheVariants as kind
 use Rattle.ax_cli.specs.declared.status.Status.{Status}
@@ -9,21 +12,17 @@ use Rattle.ax_cli.specs.declared.status.Status.TheVariants as status
 abbrev pub IsWithoutWords : ErrorKind → Status → Type 0
 IsWithoutWords k s = (k ≡ kind.OutOfMemory → s ≡ status.NoMemory) × ((k ≡ kind.OutOfMemory → ⊥) → s ≡ status.Usage)
 
--- how many words there are, where there is a list of them
-abbrev pub counted : {A : Type 0} → (A → ℕ) → Result A ErrorKind → Result ℕ ErrorKind
-counted f (Ok args) = Ok (f args)
-counted f (Err k) = Err k
+-- the words that the process got, where there is a list of them
+abbrev pub listed : {A : Type 0} → (A → List Text) → Result A ErrorKind → Result (List Text) ErrorKind
+listed f (Ok args) = Ok (f args)
+listed f (Err k) = Err k
 
--- behind the program's name, which stands first, any word is refused; memory may be short for the list of the others
-abbrev pub WordsBring : Result ℕ ErrorKind → Status → Type 0
-WordsBring (Ok count) s = (s ≡ status.Usage → 1 < count) × (1 < count → (s ≡ status.Usage) ⊎ (s ≡ status.NoMemory))
-WordsBring (Err k) s = IsWithoutWords k s
+-- what the words after the program's name ask for, which stands first; nothing, where there is no list of them
+abbrev pub asked_by : Result (List Text) ErrorKind → Option Options
+asked_by (Ok args) = options_of (drop 1 args)
+asked_by (Err k) = None
 
--- so many words stand behind the program's name
-abbrev pub WordsOf : Result ℕ ErrorKind → ℕ → Type 0
-WordsOf (Ok count) words = words ≡ count - 1
-WordsOf (Err k) words = ⊥
-
--- a status without a run
-abbrev pub IsRefused : Status → Type 0
-IsRefused s = (s ≡ status.NoMemory) ⊎ (s ≡ status.Usage)
+-- the status where there is no list of words
+abbrev pub IsWithout : Result (List Text) ErrorKind → Status → Type 0
+IsWithout (Ok args) s = Unit {0}
+IsWithout (Err k) s = IsWithoutWords k s

@@ -4,19 +4,26 @@ use Rattle.std.specs.Io.KnownBytes.{Keeps}
 use Rattle.ax_base.specs.Outside.{Told, Counts}
 use Rattle.ax_task.specs.Parse.{Parsed, BadProgram, Runs, Ending, Clean, Fault, parse}
 use Rattle.ax_task.specs.Clause.{Holds, RunEnds, Stops, RunCounts, AllStay, EndCounts}
+use Rattle.ax_words.specs.declared.options.Options.{Options}
 use Rattle.ax_task.specs.declared.end.End.{End}
 use Rattle.ax_task.specs.declared.end.End.TheVariants as end
 use Rattle.ax_cli.specs.FaultLine.{WritesLine, line_of}
 use Rattle.ax_cli.specs.declared.status.Status.{Status}
 use Rattle.ax_cli.specs.declared.status.Status.TheVariants as status
 
--- how many key groups there are
-abbrev pub groups : ℕ
-groups = 128
+-- how many key groups the words name; where they are refused there is no run
+abbrev pub groups_by : Option Options → ℕ
+groups_by None = 0
+groups_by (Some options) = options.max_parallelism
 
 -- whether watermarks wait for all that precedes them, and all that follows waits for them
 abbrev pub serial : Bool
 serial = true
+
+-- the words are accepted
+abbrev pub AreAccepted : Option Options → Type 0
+AreAccepted None = ⊥
+AreAccepted (Some options) = Unit {0}
 
 -- the code with which the process ends
 abbrev pub code_of : Status → ℕ
@@ -46,22 +53,26 @@ abbrev pub ByEnd : Option End → Type 0 → (End → Type 0) → Type 0
 ByEnd None Refused P = Refused
 ByEnd (Some e) Refused P = P e
 
--- what a run leaves, where the bytes of the input say this: `left` is what the source still has
-abbrev pub StatusOf : Holds → Parsed → List ℕ → Status → Type 0
-StatusOf out whole left s = ByEnd (end_of s) (Unit {0}) (RunEnds groups serial out whole left)
+-- what a run leaves, where there are m key groups and the bytes of the input say this: `left` is what the source still has
+abbrev pub StatusOf : ℕ → Holds → Parsed → List ℕ → Status → Type 0
+StatusOf m out whole left s = ByEnd (end_of s) (Unit {0}) (RunEnds m serial out whole left)
 
 -- what a run leaves that stops for a fault of its source or its sink, or for want of memory: `left` is what the source still has of
 -- these bytes
-abbrev pub StatusStops : Holds → List ℕ → List ℕ → Status → Type 0
-StatusStops out bytes left s = ByEnd (end_of s) (Unit {0}) (Stops groups serial out bytes left)
+abbrev pub StatusStops : ℕ → Holds → List ℕ → List ℕ → Status → Type 0
+StatusStops m out bytes left s = ByEnd (end_of s) (Unit {0}) (Stops m serial out bytes left)
 
 -- the counts of the source and the sink
 abbrev pub StatusCounts : RunCounts → RunCounts → Status → Type 0
 StatusCounts old new s = ByEnd (end_of s) (AllStay old new) (EndCounts old new)
 
--- where the words are refused, nothing was read or written
-abbrev pub UsageLeaves : Option (List ℕ) → Option (List ℕ) → Holds → Status → Type 0
-UsageLeaves left left' out s = ByEnd (end_of s) (Keeps left left' × Keeps out.old out.new) (λ e. Unit {0})
+-- nothing was read, written or counted
+abbrev pub AreUntouched : Option (List ℕ) → Option (List ℕ) → Holds → RunCounts → RunCounts → Type 0
+AreUntouched left left' out old new = Keeps left left' × Keeps out.old out.new × AllStay old new
+
+-- a status without a run
+abbrev pub IsRefused : Status → Type 0
+IsRefused s = (s ≡ status.NoMemory) ⊎ (s ≡ status.Usage)
 
 -- no fault was counted, and the count has not come to its end
 abbrev pub NoFault : ℕ → ℕ → Type 0
@@ -98,13 +109,15 @@ pub record Streams : Type 0 where
   pub err_counts : Counts
   pub err_counts_behind : Counts
 
--- what a run leaves, by its status
-pub record Leaves (s : Streams) (t : Status) : Type 0 where
-  pub told : Told s.left s.left_behind (λ a b. StatusOf s.out (parse a) b t)
-  pub stopped : Told s.left s.left_behind (λ a b. StatusStops s.out a b t)
-  pub refused : UsageLeaves s.left s.left_behind s.out t
+-- what a run leaves, by its status, where the words ask for this
+pub record Leaves (asked : Option Options) (s : Streams) (t : Status) : Type 0 where
+  pub usage : t ≡ status.Usage → asked ≡ None
+  pub refused : asked ≡ None → IsRefused t
+  pub untouched : asked ≡ None → AreUntouched s.left s.left_behind s.out s.counts s.counts_behind
+  pub told : Told s.left s.left_behind (λ a b. StatusOf (groups_by asked) s.out (parse a) b t)
+  pub stopped : Told s.left s.left_behind (λ a b. StatusStops (groups_by asked) s.out a b t)
   pub counts : StatusCounts s.counts s.counts_behind t
-  pub complete : (t ≡ status.Usage → ⊥) → NoFault s.counts.reads s.counts_behind.reads → NoFault s.counts.writes.faults s.counts_behind.writes.faults
+  pub complete : AreAccepted asked → NoFault s.counts.reads s.counts_behind.reads → NoFault s.counts.writes.faults s.counts_behind.writes.faults
       → Told s.left s.left_behind (λ a b. IsNamed (parse a) t)
-  pub no_program : (t ≡ status.Usage → ⊥) → NoFault s.counts.reads s.counts_behind.reads → Told s.left s.left_behind (λ a b. IsProgramNamed (parse a) t)
+  pub no_program : AreAccepted asked → NoFault s.counts.reads s.counts_behind.reads → Told s.left s.left_behind (λ a b. IsProgramNamed (parse a) t)
   pub line : WritesLine s.err s.err_counts s.err_counts_behind (line_of t)

@@ -1,7 +1,9 @@
 //! What the process does.
-ghost use Rattle.std.specs.Prelude.{◌≡◌, ◌<◌, ◌-◌, length, Ok, IfOk, IfErr};
-ghost use Rattle.ax_cli.specs.Status.{code_of, Leaves};
-ghost use Rattle.ax_cli.specs.Program.{counted, WordsBring, WordsOf, IsWithoutWords, IsRefused};
+ghost use Rattle.std.specs.Prelude.{◌≡◌, map, drop, string_bytes, None, IfOk, IfErr, OnOk};
+ghost use Rattle.ax_cli.specs.Status.{code_of, IsRefused, Leaves};
+ghost use Rattle.ax_words.specs.Options.{options_of, texts};
+ghost use Rattle.ax_cli.specs.declared.status.Status.{Status as AnyStatus};
+ghost use Rattle.ax_cli.specs.Program.{listed, asked_by, IsWithout, IsWithoutWords};
 
 use crate::fault_line::write_fault_line;
 use crate::run::run_alone;
@@ -10,13 +12,26 @@ use ax_base::{NoMemory, Sink, Source};
 use std::alloc::Global;
 use std::io::ErrorKind;
 
-// The words behind the program's name.
-fn words_behind(alloc: Global, args: &[String]) -> Result<Vec<&str>, NoMemory>
-    ensures { IfOk result (λ words. length words.items ≡ length args.now - 1) }
+// Words as texts.
+fn as_texts(alloc: Global, args: &[String]) -> Result<Vec<&str>, NoMemory>
+    ensures { IfOk result (λ words. texts words.items ≡ map string_bytes args.now) }
 {
-    match args.iter().skip(1).map(|word| word.as_str()).collect(alloc) {
-        Ok(words) => Ok(words),
-        Err(_) => Err(NoMemory),
+    let mut words = Vec::new(alloc);
+    for arg in args {
+        if words.push(arg.as_str()).is_err() {
+            return Err(NoMemory);
+        }
+    }
+    Ok(words)
+}
+
+// The words after the program's name.
+fn words_behind(alloc: Global, args: &[String]) -> Result<Vec<&str>, NoMemory>
+    ensures { IfOk result (λ words. texts words.items ≡ drop 1 (map string_bytes args.now)) }
+{
+    match args {
+        [] => as_texts(alloc, args),
+        [_, words @ ..] => as_texts(alloc, words),
     }
 }
 
@@ -33,8 +48,10 @@ fn without_words(kind: ErrorKind) -> Status
 
 // The words behind the program's name, or the status where there is no list of them.
 fn own_words(alloc: Global, args: &Result<Vec<String>, ErrorKind>) -> Result<Vec<&str>, Status>
-    ensures words { IfOk result (λ words. WordsOf (counted (λ v. length v.items) args.now) (length words.items)) }
-    ensures none { IfErr result (λ status. WordsBring (counted (λ v. length v.items) args.now) status) }
+    ensures asked { IfOk result (λ words. asked_by (listed (λ v. map string_bytes v.items) args.now) ≡ options_of (texts words.items)) }
+    ensures list { OnOk result ((s : AnyStatus) → IsWithout (listed (λ v. map string_bytes v.items) args.now) s) }
+    ensures none { IfErr result (λ status. IsWithout (listed (λ v. map string_bytes v.items) args.now) status) }
+    ensures usage { IfErr result (λ status. status ≡ Status.Usage → asked_by (listed (λ v. map string_bytes v.items) args.now) ≡ None) }
     ensures refused { IfErr result IsRefused }
 {
     match args {
@@ -57,7 +74,7 @@ pub fn run_program<S: Source, K: Sink, E: Sink>(
     out: &mut K,
     err: &mut E,
 ) -> u8
-    ensures { (status : Status) × (result ≡ code_of status) × WordsBring (counted (λ v. length v.items) args) status × Leaves (record {
+    ensures { (status : Status) × (result ≡ code_of status) × IsWithout (listed (λ v. map string_bytes v.items) args) status × Leaves (asked_by (listed (λ v. map string_bytes v.items) args)) (record {
       left = S.left input.old;
       left_behind = S.left input.new;
       out = record { old = K.holds out.old; new = K.holds out.new };

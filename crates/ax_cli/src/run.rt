@@ -1,25 +1,29 @@
 //! The top call.
-ghost use Rattle.std.specs.Prelude.{◌≡◌, ◌<◌, ◌≤◌, ◌↔◌, length, None, IfSome};
+ghost use Rattle.std.specs.Prelude.{◌≡◌, ◌≤◌, None, IfOk, IfErr, OnOk};
 ghost use Rattle.ax_base.specs.Outside.{Told};
 ghost use Rattle.ax_task.specs.Parse.{parse};
-ghost use Rattle.ax_cli.specs.Status.{groups, StatusOf, StatusStops, StatusCounts, UsageLeaves, NoFault, IsNamed, IsProgramNamed};
+ghost use Rattle.ax_words.specs.Options.{options_of, texts};
+ghost use Rattle.ax_cli.specs.Status.{groups_by, AreAccepted, StatusOf, StatusStops, StatusCounts, AreUntouched, IsRefused, NoFault, IsNamed, IsProgramNamed};
 ghost use Rattle.ax_cli.specs.FaultLine.{WritesLine, line_of};
 
 use crate::fault_line::write_fault_line;
 use crate::status::Status;
 use ax_base::{Sink, Source};
 use ax_task::run_task_alone;
+use ax_words::{WordFault, read_words};
 use std::alloc::Global;
 
-// How many key groups there are.
-const GROUPS: u16 = 128;
-
-// The number of key groups that the words give; none where they are refused. There are no options yet: any word is refused.
-fn groups_of(words: &[&str]) -> Option<u16>
-    ensures refused { (result ≡ None) ↔ (0 < length words.now) }
-    ensures accepted { IfSome result (λ m. m ≡ groups) }
+// The number of key groups that the words name.
+fn groups_of(alloc: Global, words: &[&str]) -> Result<u16, WordFault>
+    ensures groups { IfOk result (λ m. m ≡ groups_by (options_of (texts words.now))) }
+    ensures accepted { OnOk result (AreAccepted (options_of (texts words.now))) }
+    ensures refused { IfErr result (λ e. e ≡ WordFault.Usage → options_of (texts words.now) ≡ None) }
+    ensures range { IfOk result (λ m. (1 ≤ m) × (m ≤ 32768)) }
 {
-    if words.is_empty() { Some(GROUPS) } else { None }
+    match read_words(alloc, words) {
+        Ok(options) => Ok(options.max_parallelism),
+        Err(fault) => Err(fault),
+    }
 }
 
 // The run without its line.
@@ -29,27 +33,30 @@ fn run_words<S: Source, K: Sink>(
     input: &mut S,
     out: &mut K,
 ) -> Status
-    ensures usage { (result ≡ Status.Usage) ↔ (0 < length words.now) }
+    ensures usage { result ≡ Status.Usage → options_of (texts words.now) ≡ None }
+    ensures refused { options_of (texts words.now) ≡ None → IsRefused result }
+    ensures untouched { options_of (texts words.now) ≡ None → AreUntouched (S.left input.old) (S.left input.new) (record { old = K.holds out.old; new = K.holds out.new }) (record { reads = S.faults input.old; writes = K.counts out.old }) (record { reads = S.faults input.new; writes = K.counts out.new }) }
     ensures told { Told (S.left input.old) (S.left input.new)
-        (λ a b. StatusOf (record { old = K.holds out.old; new = K.holds out.new }) (parse a) b result) }
+        (λ a b. StatusOf (groups_by (options_of (texts words.now))) (record { old = K.holds out.old; new = K.holds out.new }) (parse a) b result) }
     ensures stopped { Told (S.left input.old) (S.left input.new)
-        (λ a b. StatusStops (record { old = K.holds out.old; new = K.holds out.new }) a b result) }
-    ensures refused { UsageLeaves (S.left input.old) (S.left input.new) (record { old = K.holds out.old; new = K.holds out.new }) result }
+        (λ a b. StatusStops (groups_by (options_of (texts words.now))) (record { old = K.holds out.old; new = K.holds out.new }) a b result) }
     ensures counts { StatusCounts (record { reads = S.faults input.old; writes = K.counts out.old }) (record { reads = S.faults input.new; writes = K.counts out.new }) result }
 {
-    match groups_of(words) {
-        Some(groups) => Status::of_end(run_task_alone(alloc, groups, input, out)),
-        None => Status::Usage,
+    match groups_of(alloc, words) {
+        Ok(groups) => Status::of_end(run_task_alone(alloc, groups, input, out)),
+        Err(WordFault::Usage) => Status::Usage,
+        Err(WordFault::NoMemory) => Status::NoMemory,
     }
 }
 
 /// Does all that the program does, in one thread.
 ///
-/// `words` are the words after the program's name. There are no options yet: any word is refused.
-/// The program and its events come from `input`, the lines of the events go to `out`, and one
+/// `words` are the words after the program's name; what they ask for is `options_of`, and they are
+/// refused where it is nothing. The program and its events come from `input`, the lines of the events go to `out`, and one
 /// line that tells of an end other than Ok goes to `err`. No answer of `err` changes the status.
 ///
-/// Want of memory is free. Otherwise the status is the one that the bytes of the input name, but
+/// Want of memory is free. Where the words are refused the status is Usage, and nothing is read or
+/// written. Otherwise the status is the one that the bytes of the input name, but
 /// Read comes where a read fault was counted, and Write where a write fault of `out` was.
 ///
 /// At Ok and Input a lawful list of lines was written for all events before the end or the fault; at
@@ -63,16 +70,17 @@ pub fn run_alone<S: Source, K: Sink, E: Sink>(
     out: &mut K,
     err: &mut E,
 ) -> Status
-    ensures usage { (result ≡ Status.Usage) ↔ (0 < length words.now) }
+    ensures usage { result ≡ Status.Usage → options_of (texts words.now) ≡ None }
+    ensures refused { options_of (texts words.now) ≡ None → IsRefused result }
+    ensures untouched { options_of (texts words.now) ≡ None → AreUntouched (S.left input.old) (S.left input.new) (record { old = K.holds out.old; new = K.holds out.new }) (record { reads = S.faults input.old; writes = K.counts out.old }) (record { reads = S.faults input.new; writes = K.counts out.new }) }
     ensures told { Told (S.left input.old) (S.left input.new)
-        (λ a b. StatusOf (record { old = K.holds out.old; new = K.holds out.new }) (parse a) b result) }
+        (λ a b. StatusOf (groups_by (options_of (texts words.now))) (record { old = K.holds out.old; new = K.holds out.new }) (parse a) b result) }
     ensures stopped { Told (S.left input.old) (S.left input.new)
-        (λ a b. StatusStops (record { old = K.holds out.old; new = K.holds out.new }) a b result) }
-    ensures refused { UsageLeaves (S.left input.old) (S.left input.new) (record { old = K.holds out.old; new = K.holds out.new }) result }
+        (λ a b. StatusStops (groups_by (options_of (texts words.now))) (record { old = K.holds out.old; new = K.holds out.new }) a b result) }
     ensures counts { StatusCounts (record { reads = S.faults input.old; writes = K.counts out.old }) (record { reads = S.faults input.new; writes = K.counts out.new }) result }
-    ensures complete { length words.now ≡ 0 → NoFault (S.faults input.old) (S.faults input.new) → NoFault (K.counts out.old).faults (K.counts out.new).faults →
+    ensures complete { AreAccepted (options_of (texts words.now)) → NoFault (S.faults input.old) (S.faults input.new) → NoFault (K.counts out.old).faults (K.counts out.new).faults →
         Told (S.left input.old) (S.left input.new) (λ a b. IsNamed (parse a) result) }
-    ensures no_program { length words.now ≡ 0 → NoFault (S.faults input.old) (S.faults input.new) →
+    ensures no_program { AreAccepted (options_of (texts words.now)) → NoFault (S.faults input.old) (S.faults input.new) →
         Told (S.left input.old) (S.left input.new) (λ a b. IsProgramNamed (parse a) result) }
     ensures line { WritesLine (record { old = E.holds err.old; new = E.holds err.new }) (E.counts err.old) (E.counts err.new) (line_of result) }
 {

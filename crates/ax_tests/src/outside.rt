@@ -31,6 +31,27 @@ fn any_word_is_refused_and_nothing_read(rt: HostRuntime) -> Result<(), Fail> {
     Ok(())
 }
 
+// What a run writes for two keys and a barrier, by the order of the keys in the block.
+const BY_KEY: &str = "o a 5\no b 1\ns 1 -9223372036854775808\nc a c 5\nc b c 1\ne 1 2\n";
+
+const BY_GROUP: &str = "o a 5\no b 1\ns 1 -9223372036854775808\nc b c 1\nc a c 5\ne 1 2\n";
+
+#[test]
+fn words_name_the_key_groups(rt: HostRuntime) -> Result<(), Fail> {
+    let alloc = rt.alloc();
+    for (groups, out) in [("1", BY_KEY), ("4", BY_KEY), ("128", BY_GROUP)] {
+        let events = b"r a 1 5\nr b 2 1\nb 1\n";
+        let mut source = SureSource::new(joined(alloc, &[COUNTER.as_bytes(), events])?);
+        let mut sink = SureSink::new(alloc);
+        let mut err = SureSink::new(alloc);
+        let words = ["--max-parallelism", groups];
+        let status = run_alone(alloc, &words, &mut source, &mut sink, &mut err);
+        assert_eq!(rt; status, Status::Ok, "{groups}");
+        assert_eq!(rt; sink.bytes(), out.as_bytes(), "{groups}");
+    }
+    Ok(())
+}
+
 #[test]
 fn codes_and_lines(rt: HostRuntime) -> Result<(), Fail> {
     let cases = [
