@@ -70,7 +70,7 @@ impl<W: Work> Board<W> {
         requires same { holds seat.old ≡ Some (held.cell, W.job held.work) }
         ensures board { work_table seat.new ≡ table self.now }
         ensures empty { holds seat.new ≡ None }
-        ensures rang { Rang (self.now.cells + 2) (work_found seat.old) (work_found seat.new) }
+        ensures rang { Rang (self.now.cells + 2) ((held.cell, 3) ∷ work_found seat.old) (work_found seat.new) }
     {
         let Held {
             work,
@@ -87,7 +87,7 @@ impl<W: Work> Board<W> {
         requires same { holds seat.old ≡ Some (at, W.job work) }
         ensures board { work_table seat.new ≡ table self.now }
         ensures empty { holds seat.new ≡ None }
-        ensures rang { Rang (self.now.cells + 2) (work_found seat.old) (work_found seat.new) }
+        ensures rang { Rang (self.now.cells + 2) ((at, 3) ∷ work_found seat.old) (work_found seat.new) }
     {
         let WorkSeat { seat, empty } = seat;
         drop(self.table.shared.exchange(seat, at, Some(work)));
