@@ -87,7 +87,7 @@ impl<W: Work> Board<W> {
         seat.home[usize::from(cell)]
     }
 
-    /// Puts work out at a cell, and rings the work bell. Conditions: `is_home`, and the work was not run.
+    /// Puts work out at a cell, and then rings the work bell. Conditions: `is_home`, and the work was not run.
     pub fn post(&self, seat: &mut TaskSeat<W>, cell: u16, work: W)
         requires board { task_table seat.old ≡ table self.now }
         requires cell { cell < self.now.cells }
@@ -179,6 +179,8 @@ impl<W: Work> Board<W> {
     }
 
     /// Ends a worker's seat. Condition: it is empty.
+    /// No more is promised of it than that the board's rule holds on, and that what the task's seat knows
+    /// stays.
     pub fn join(&self, seat: &mut TaskSeat<W>, other: WorkSeat<W>)
         requires board { task_table seat.old ≡ table self.now }
         requires worker { work_table other ≡ table self.now }
