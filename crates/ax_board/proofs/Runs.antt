@@ -108,15 +108,45 @@ module _ {W J : Type 0} (job : W → J) (was_run : W → Bool) (has_result : W �
       let busy : List (View J) = Worker (Some (0, job posted)) ∷ [] in
       let given : States = at_one 3 0 1 0 (some (Some ran)) out idle in (
         at_one 0 1 1 1 none Home (Spent ∷ []),
-        (at_one 0 0 0 0 none Home [], (0, Closed ∷ [], omega arith, refl, refl, refl),
-        (at_one 0 0 0 0 none Home idle, refl,
-        (at_one 1 0 0 0 (some (Some posted)) out idle, (0, Home ∷ [], omega arith, refl, refl, fresh, refl),
-        (at_one 1 0 1 0 (some (Some posted)) out idle, (omega arith, refl),
-        (at_one 1 0 1 0 (some (Some posted)) out idle, refl,
-        (at_one 2 0 1 0 none out busy, (omega arith, refl, refl, refl, refl),
-        (given, (omega arith, ap (λ (j : J). some (Worker (Some (0, j)))) (sym same), was, result, refl),
-        (at_one 3 0 1 1 (some (Some ran)) out idle, (omega arith, refl),
-        (at_one 0 0 1 1 none Home idle, (0, out ∷ [], omega arith, refl, refl, refl, refl),
-        (at_one 0 1 1 1 none Home idle, refl,
-        (at_one 0 1 1 1 none Home (Spent ∷ []), (refl, refl), refl))))))))))),
+        (
+          at_one 0 0 0 0 none Home [],
+          (0, Closed ∷ [], omega arith, refl, refl, refl),
+          (
+            at_one 0 0 0 0 none Home idle,
+            refl,
+            (
+              at_one 1 0 0 0 (some (Some posted)) out idle,
+              (0, Home ∷ [], omega arith, refl, refl, fresh, refl),
+              (
+                at_one 1 0 1 0 (some (Some posted)) out idle,
+                (omega arith, refl),
+                (
+                  at_one 1 0 1 0 (some (Some posted)) out idle,
+                  refl,
+                  (
+                    at_one 2 0 1 0 none out busy,
+                    (omega arith, refl, refl, refl, refl),
+                    (
+                      given,
+                      (omega arith, ap (λ (j : J). some (Worker (Some (0, j)))) (sym same), was, result, refl),
+                      (
+                        at_one 3 0 1 1 (some (Some ran)) out idle,
+                        (omega arith, refl),
+                        (
+                          at_one 0 0 1 1 none Home idle,
+                          (0, out ∷ [], omega arith, refl, refl, refl, refl),
+                          (
+                            at_one 0 1 1 1 none Home idle,
+                            refl,
+                            (at_one 0 1 1 1 none Home (Spent ∷ []), (refl, refl), refl),
+                          ),
+                        ),
+                      ),
+                    ),
+                  ),
+                ),
+              ),
+            ),
+          ),
+        ),
       )
