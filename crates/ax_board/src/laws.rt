@@ -17,8 +17,8 @@ ghost use Rattle.ax_board.specs.declared.view.Note.TheVariants.{Closed, Home};
 use crate::work::Work;
 
 /// Over every run of a board's steps, in any order and by any seats: the rule holds, and each work that is
-/// collected is the one that was posted to that cell last, and was not collected since. It was run, and
-/// it has its result.
+/// collected has the job of the work that was posted to that cell last and not collected since. It was
+/// run, and it has its result.
 pub fn each_run_serves<W: Work>()
     ensures { (n : ℕ) (moves : List (Move W)) (end : State (Option W) (View W.Job)) → Runs W.job W.was_run W.has_result n (start n) moves end → Ruled W.job W.was_run W.has_result n end × AllServed W.job W.was_run W.has_result (replicate n Closed) moves }
 {}

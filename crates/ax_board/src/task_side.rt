@@ -118,9 +118,9 @@ impl<W: Work> Board<W> {
         self.ring(seat, self.cells + 1);
     }
 
-    /// Takes the work of a cell back, if it was given back. Condition: not `is_home`. It is the work that
-    /// was posted there last, run, with its result. `None` exactly where this call's exchange found the
-    /// cell's word not at 3.
+    /// Takes the work of a cell back, if it was given back. Condition: not `is_home`. It has the job
+    /// of the work that was posted there last, was run, and has its result. `None` exactly where this
+    /// call's exchange found the cell's word not at 3.
     pub fn collect(&self, seat: &mut TaskSeat<W>, cell: u16) -> Option<W>
         requires board { task_table seat.old ≡ table self.now }
         requires cell { cell < self.now.cells }

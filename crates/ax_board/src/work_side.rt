@@ -21,8 +21,9 @@ impl<W: Work> WorkSeat<W> {
 }
 
 impl<W: Work> Board<W> {
-    /// Claims the work that is posted at a cell, which no other worker then gets. Condition: the seat is
-    /// empty. `None` exactly where this call's exchange found the cell's word not at 1.
+    /// Claims the work that is posted at a cell. Condition: the seat is empty. `None` exactly where this
+    /// call's exchange found the cell's word not at 1. That no other worker holds the work is the law
+    /// `one_worker_holds`.
     pub fn claim(&self, seat: &mut WorkSeat<W>, cell: u16) -> Option<Held<W>>
         requires board { work_table seat.old ≡ table self.now }
         requires cell { cell < self.now.cells }
