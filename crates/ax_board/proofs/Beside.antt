@@ -9,7 +9,7 @@ use Rattle.ax_board.specs.declared.view.View.TheVariants.{Task, Worker, Spent}
 use Rattle.ax_board.specs.declared.view.Note.TheVariants.{Closed, Home}
 use Rattle.ax_board.specs.Seats.{held_of, slots_of}
 use Rattle.ax_board.specs.Rule.{Ruled}
-use Rattle.ax_board.specs.Trail.{Trail, bare, Bare, adds, finds, leaves, writes}
+use Rattle.ax_board.specs.Trail.{Trail, bare, Bare, adds, finds, leaves}
 use Rattle.ax_board.specs.Seats.{notes_of}
 use Rattle.ax_board.specs.Plays.{looked, heard, opened, posted, claimed, given_back, collected}
 use Rattle.ax_board.proofs.Trail.{beside, splits_beside, joins_beside}
@@ -38,8 +38,8 @@ module _ {W J : Type 0} (job : W → J) (was_run : W → Bool) (has_result : W �
   claims n slots id c m below is empty = beside (Ruled job was_run has_result n) slots id c m (λ r. (c, r) ∷ m.0.1) (λ x. either (eqb x 1) 2 x) (claimed job was_run (step slots c 1 2 none) (bare m)) (k.claims_at job was_run has_result n slots id c (bare m) below is empty)
 
   pub gives_back : (n slots id c : ℕ) (j : J) (work : W) (m : Me (Option W) (View J × Trail)) → c < n → bare m ≡ (Worker (Some (c, j)), (c, Some work) ∷ []) → was_run work ≡ true → job work ≡ j → has_result work
-      → Allows (Bare (Ruled job was_run has_result n)) slots id m c (λ _. 3) (λ r. writes given_back (step slots c 3 0 none) m 3)
-  gives_back n slots id c j work m below is ran same result = beside (Ruled job was_run has_result n) slots id c m (λ r. m.0.1) (λ x. 3) (λ r. given_back (step slots c 3 0 none) (bare m) 3) (k.gives_back_at job was_run has_result n slots id c j work (bare m) below is ran same result)
+      → Allows (Bare (Ruled job was_run has_result n)) slots id m c (λ _. 3) (λ r. leaves given_back (step slots c 3 0 none) m 3)
+  gives_back n slots id c j work m below is ran same result = beside (Ruled job was_run has_result n) slots id c m (λ r. (c, 3) ∷ m.0.1) (λ x. 3) (λ r. given_back (step slots c 3 0 none) (bare m) 3) (k.gives_back_at job was_run has_result n slots id c j work (bare m) below is ran same result)
 
   pub collects : (n slots id c : ℕ) (m : Me (Option W) (View J × Trail)) → c < n → m.0.0 ≡ Task (notes_of m.0.0)
       → Allows (Bare (Ruled job was_run has_result n)) slots id m c (λ x. either (eqb x 3) 0 x) (finds (collected job was_run has_result) (step slots c 3 0 none) m)
@@ -50,8 +50,8 @@ module _ {W J : Type 0} (job : W → J) (was_run : W → Bool) (has_result : W �
   opens n slots id c m below is closed = beside (Ruled job was_run has_result n) slots id c m (λ r. (c, r) ∷ m.0.1) (λ x. x) (opened (step slots c 0 0 none) (bare m)) (k.opens_at job was_run has_result n slots id c (bare m) below is closed)
 
   pub posts : (n slots id c : ℕ) (work : W) (m : Me (Option W) (View J × Trail)) → c < n → m.0.0 ≡ Task (notes_of m.0.0) → m.1 ≡ (c, Some work) ∷ rest m.1 → was_run work ≡ false → get_elem? (notes_of m.0.0) c ≡ some Home
-      → Allows (Bare (Ruled job was_run has_result n)) slots id m c (λ _. 1) (λ r. writes (posted job) (step slots c 1 0 none) m 1)
-  posts n slots id c work m below is front fresh home = beside (Ruled job was_run has_result n) slots id c m (λ r. m.0.1) (λ x. 1) (λ r. posted job (step slots c 1 0 none) (bare m) 1) (k.posts_at job was_run has_result n slots id c work (bare m) below is front fresh home)
+      → Allows (Bare (Ruled job was_run has_result n)) slots id m c (λ _. 1) (λ r. leaves (posted job) (step slots c 1 0 none) m 1)
+  posts n slots id c work m below is front fresh home = beside (Ruled job was_run has_result n) slots id c m (λ r. (c, 1) ∷ m.0.1) (λ x. 1) (λ r. posted job (step slots c 1 0 none) (bare m) 1) (k.posts_at job was_run has_result n slots id c work (bare m) below is front fresh home)
 
   pub splits : (n id : ℕ) (v : View J × Trail) → Splits (Bare (Ruled job was_run has_result n)) id v v (Worker None, [])
   splits n id v = splits_beside (Ruled job was_run has_result n) id v v (Worker None, []) (k.splits job was_run has_result n id v.0)

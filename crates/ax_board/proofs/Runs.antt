@@ -1,12 +1,15 @@
 -- Each run of steps keeps the rule, and what is collected is what was posted.
-use Rattle.std.proofs.Common.{◌≡◌, ℕ, ◌+◌, ◌%◌, ◌^◌, ◌<◌, Bool, List, [], ◌∷◌, get_or, set, replicate, sym, refl, ap, ◌∙◌, subst, arith, Option}
+use Rattle.std.proofs.Common.{◌≡◌, ℕ, ◌+◌, ◌%◌, ◌^◌, ◌<◌, Bool, List, [], ◌∷◌, get_or, set, replicate, sym, refl, ap, ◌∙◌, subst, arith, get_or-set_other, true, false, Option, Some, None}
 use lib.ListN.{get_elem?}
+use lib.Seq.{set-get_or}
+use mathlib.Core.Option.{some, none, Option as Maybe}
 use Rattle.atomic_table.specs.Table.{State}
 use Rattle.ax_board.specs.declared.view.View.{View}
+use Rattle.ax_board.specs.declared.view.View.TheVariants.{Task, Worker, Spent}
 use Rattle.ax_board.specs.declared.view.Note.{Note}
 use Rattle.ax_board.specs.declared.view.Note.TheVariants.{Closed, Home, Out}
 use Rattle.ax_board.specs.Rule.{Notes, Ruled}
-use Rattle.ax_board.specs.Runs.{Move, opens, posts, claims, gives_back, collects, looks, stops, rings, splits, joins, start, Runs, AllServed}
+use Rattle.ax_board.specs.Runs.{Move, opens, posts, claims, gives_back, collects, looks, stops, rings, splits, joins, start, Does, Runs, AllServed}
 use Rattle.ax_board.proofs.Keeps as k
 
 module _ {W J : Type 0} (job : W → J) (was_run : W → Bool) (has_result : W → Type 0) where
@@ -74,3 +77,76 @@ module _ {W J : Type 0} (job : W → J) (was_run : W → Bool) (has_result : W �
       let at = k.noted job was_run has_result r.notes c (omega (arith, r.all)) in
       let p = k.claimed_at job was_run has_result (get_or s.words c 0) (get_elem? s.homes c) s.views c at.0 a i here (r.cells c at.0 at.1) in
       p.2.one.alone a i here ∙ sym (p.2.one.alone b j there)
+
+  -- no step but a stop writes to the stop word
+  stop_kept : (n : ℕ) (move : Move W) (s t : States) → Does job was_run has_result n s move t → get_or s.words n 0 ≡ 1 → get_or t.words n 0 ≡ 1
+  stop_kept n (opens c) s t d is = let below = d.2 in ap (λ (v : States). get_or v.words n 0) d.5 ∙ (get_or-set_other s.words c n _ 0 (λ (e : n ≡ c). absurd (omega arith)) ∙ is)
+  stop_kept n (posts c work) s t d is = let below = d.2 in ap (λ (v : States). get_or v.words n 0) d.6 ∙ (get_or-set_other s.words c n 1 0 (λ (e : n ≡ c). absurd (omega arith)) ∙ is)
+  stop_kept n (claims seat c work) s t d is = let below = d.0 in ap (λ (v : States). get_or v.words n 0) d.4 ∙ (get_or-set_other s.words c n 2 0 (λ (e : n ≡ c). absurd (omega arith)) ∙ is)
+  stop_kept n (gives_back seat c work) s t d is = let below = d.0 in ap (λ (v : States). get_or v.words n 0) d.4 ∙ (get_or-set_other s.words c n 3 0 (λ (e : n ≡ c). absurd (omega arith)) ∙ is)
+  stop_kept n (collects c work) s t d is = let below = d.2 in ap (λ (v : States). get_or v.words n 0) d.6 ∙ (get_or-set_other s.words c n 0 0 (λ (e : n ≡ c). absurd (omega arith)) ∙ is)
+  stop_kept n looks s t d is = ap (λ (v : States). get_or v.words n 0) d ∙ is
+  stop_kept n stops s t d is = ap (λ (v : States). get_or v.words n 0) d ∙ (ap (λ (x : ℕ). get_or (set s.words n x) n 0) (sym is) ∙ (ap (λ (l : List ℕ). get_or l n 0) (set-get_or s.words n 0) ∙ is))
+  stop_kept n (rings bell) s t d is = let past = d.0 in ap (λ (v : States). get_or v.words n 0) d.1 ∙ (get_or-set_other s.words bell n _ 0 (λ (e : n ≡ bell). absurd (omega arith)) ∙ is)
+  stop_kept n splits s t d is = ap (λ (v : States). get_or v.words n 0) d ∙ is
+  stop_kept n (joins seat) s t d is = ap (λ (v : States). get_or v.words n 0) d.1 ∙ is
+
+  pub stays : (n : ℕ) (moves : List (Move W)) (s t : States) → Goes n s moves t → get_or s.words n 0 ≡ 1 → get_or t.words n 0 ≡ 1
+  stays n [] s t run is = ap (λ (v : States). get_or v.words n 0) run ∙ is
+  stays n (move ∷ moves) s t run is = stays n moves run.0 t run.2 (stop_kept n move s run.0 run.1 is)
+
+  -- with one cell: the words are that of the cell, the stop word, the work bell and the back bell
+  abbrev at_one : ℕ → ℕ → ℕ → ℕ → Maybe (Option W) → Note J → List (View J) → States
+  at_one word stop work back home note workers = record { words = word ∷ stop ∷ work ∷ back ∷ []; homes = home ∷ []; views = Task (note ∷ []) ∷ workers }
+
+  -- each kind of step can be made, in such a run
+  pub comes_back : (posted ran : W) → was_run posted ≡ false → was_run ran ≡ true → job ran ≡ job posted → has_result ran
+      → (end : States) × Goes 1 (start 1) (opens 0 ∷ splits ∷ posts 0 posted ∷ rings 2 ∷ looks ∷ claims 1 0 posted ∷ gives_back 1 0 ran ∷ rings 3 ∷ collects 0 ran ∷ stops ∷ joins 1 ∷ []) end
+  comes_back posted ran fresh was same result =
+      let out : Note J = Out (job posted) in
+      let idle : List (View J) = Worker None ∷ [] in
+      let busy : List (View J) = Worker (Some (0, job posted)) ∷ [] in
+      let given : States = at_one 3 0 1 0 (some (Some ran)) out idle in (
+        at_one 0 1 1 1 none Home (Spent ∷ []),
+        (
+          at_one 0 0 0 0 none Home [],
+          (0, Closed ∷ [], omega arith, refl, refl, refl),
+          (
+            at_one 0 0 0 0 none Home idle,
+            refl,
+            (
+              at_one 1 0 0 0 (some (Some posted)) out idle,
+              (0, Home ∷ [], omega arith, refl, refl, fresh, refl),
+              (
+                at_one 1 0 1 0 (some (Some posted)) out idle,
+                (omega arith, refl),
+                (
+                  at_one 1 0 1 0 (some (Some posted)) out idle,
+                  refl,
+                  (
+                    at_one 2 0 1 0 none out busy,
+                    (omega arith, refl, refl, refl, refl),
+                    (
+                      given,
+                      (omega arith, ap (λ (j : J). some (Worker (Some (0, j)))) (sym same), was, result, refl),
+                      (
+                        at_one 3 0 1 1 (some (Some ran)) out idle,
+                        (omega arith, refl),
+                        (
+                          at_one 0 0 1 1 none Home idle,
+                          (0, out ∷ [], omega arith, refl, refl, refl, refl),
+                          (
+                            at_one 0 1 1 1 none Home idle,
+                            refl,
+                            (at_one 0 1 1 1 none Home (Spent ∷ []), (refl, refl), refl),
+                          ),
+                        ),
+                      ),
+                    ),
+                  ),
+                ),
+              ),
+            ),
+          ),
+        ),
+      )

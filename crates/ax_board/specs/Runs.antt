@@ -68,7 +68,7 @@ module _ {W J : Type 0} where
       Runs n s [] t = t ≡ s
       Runs n s (move ∷ moves) t = (next : State (Option W) (View J)) × Does n s move next × Runs n next moves t
 
-      -- work is posted to a cell that is home. What is collected is the work that was posted there last and not collected since, run, with its result
+      -- work is posted to a cell that is home. What is collected has the job of the work that was posted there last and not collected since, was run, and has its result
       abbrev pub Served : List (Note J) → Move W → Type 0
       Served notes (opens c) = get_elem? notes c ≡ some Closed
       Served notes (posts c work) = get_elem? notes c ≡ some Home

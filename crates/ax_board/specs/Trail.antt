@@ -33,7 +33,3 @@ module _ {S V : Type 0} where
   -- a step that stores a number, and remembers it
   abbrev pub leaves : (Step S → Me S V → ℕ → Me S V → Type 0) → Step S → Me S (V × Trail) → ℕ → Me S (V × Trail) → Type 0
   leaves then st m r n = then st (bare m) r (bare n) × (n.0.1 ≡ (st.word, st.first) ∷ m.0.1)
-
-  -- a step that remembers nothing
-  abbrev pub writes : (Step S → Me S V → ℕ → Me S V → Type 0) → Step S → Me S (V × Trail) → ℕ → Me S (V × Trail) → Type 0
-  writes then st m r n = then st (bare m) r (bare n) × (n.0.1 ≡ m.0.1)

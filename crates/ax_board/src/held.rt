@@ -3,7 +3,8 @@ ghost use Rattle.std.specs.Prelude.{◌≡◌, true, false};
 
 use crate::work::Work;
 
-/// Work that a worker has claimed, with its cell. Give it back once it was run.
+/// Work that a worker has claimed, with its cell. Give it back once it was run: where it is dropped
+/// instead, its cell stays claimed and its seat full for good.
 #[derive(Drop)]
 pub struct Held<W: Work> {
     pub(crate) work: W,

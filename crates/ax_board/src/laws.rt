@@ -1,12 +1,13 @@
 //! Laws of the board. Whatever the table is when a seat makes a step, the rule holds after it: a law for
-//! each of the ten kinds of step. They have no code; their clauses are what they say.
-ghost use Rattle.std.specs.Prelude.{◌≡◌, ◌≢◌, ℕ, ◌+◌, ◌%◌, ◌^◌, ◌<◌, ◌==◌, true, false, List, Option, [], ◌∷◌, Some, None, replicate};
+//! each of the ten kinds of step. Others speak of whole runs of such steps. They have no code; their
+//! clauses are what they say.
+ghost use Rattle.std.specs.Prelude.{◌≡◌, ◌≢◌, ℕ, ◌+◌, ◌%◌, ◌^◌, ◌<◌, ◌==◌, true, false, List, Option, [], ◌∷◌, Some, None, replicate, slice_index};
 ghost use prog.Atomic.{either};
 ghost use mathlib.Core.Option.{none, some};
 ghost use lib.ListN.{get_elem?};
 ghost use Rattle.atomic_table.specs.Table.{State, Me, Allows, Splits, Joins, step};
 ghost use Rattle.ax_board.specs.Rule.{Ruled, Notes};
-ghost use Rattle.ax_board.specs.Runs.{Move, Runs, AllServed, start};
+ghost use Rattle.ax_board.specs.Runs.{Move, Runs, AllServed, start, opens, posts, claims, gives_back, collects, looks, stops, rings, splits, joins};
 ghost use Rattle.ax_board.specs.Plays.{opened, posted, claimed, given_back, collected, looked, heard};
 ghost use Rattle.ax_board.specs.declared.view.View.{View};
 ghost use Rattle.ax_board.specs.declared.view.View.TheVariants.{Task, Worker, Spent};
@@ -16,10 +17,21 @@ ghost use Rattle.ax_board.specs.declared.view.Note.TheVariants.{Closed, Home};
 use crate::work::Work;
 
 /// Over every run of a board's steps, in any order and by any seats: the rule holds, and each work that is
-/// collected is the one that was posted to that cell last, and was not collected since. It was run, and
-/// it has its result.
+/// collected has the job of the work that was posted to that cell last and not collected since. It was
+/// run, and it has its result.
 pub fn each_run_serves<W: Work>()
     ensures { (n : ℕ) (moves : List (Move W)) (end : State (Option W) (View W.Job)) → Runs W.job W.was_run W.has_result n (start n) moves end → Ruled W.job W.was_run W.has_result n end × AllServed W.job W.was_run W.has_result (replicate n Closed) moves }
+{}
+
+/// Over every run, the stop word stays at 1 once it is 1.
+pub fn stop_stays<W: Work>()
+    ensures { (n : ℕ) (moves : List (Move W)) (begin end : State (Option W) (View W.Job)) → Runs W.job W.was_run W.has_result n begin moves end → slice_index begin.words n ≡ 1 → slice_index end.words n ≡ 1 }
+{}
+
+/// Such runs exist: with one cell, a run makes a step of each kind, in which work that was posted comes
+/// back, once it was run.
+pub fn a_work_comes_back<W: Work>()
+    ensures { (posted ran : W) → W.was_run posted ≡ false → W.was_run ran ≡ true → W.job ran ≡ W.job posted → W.has_result ran → (end : State (Option W) (View W.Job)) × Runs W.job W.was_run W.has_result 1 (start 1) (opens 0 ∷ splits ∷ posts 0 posted ∷ rings 2 ∷ looks ∷ claims 1 0 posted ∷ gives_back 1 0 ran ∷ rings 3 ∷ collects 0 ran ∷ stops ∷ joins 1 ∷ []) end }
 {}
 
 /// At each moment at most one worker holds the work of a cell.

@@ -1,7 +1,7 @@
 // The rule of the board's table, and what each of its ten kinds of step tells its caller.
 ghost use Rattle.std.specs.Prelude.{ℕ, replicate, None, []};
 ghost use Rattle.ax_board.specs.Rule.{Ruled};
-ghost use Rattle.ax_board.specs.Trail.{Bare, adds, finds, leaves, writes};
+ghost use Rattle.ax_board.specs.Trail.{Bare, adds, finds, leaves};
 ghost use Rattle.ax_board.specs.Plays.{opened, posted, claimed, given_back, collected, looked, heard};
 ghost use Rattle.ax_board.specs.declared.view.View.TheVariants.{Task, Worker, Spent};
 ghost use Rattle.ax_board.specs.declared.view.Note.TheVariants.{Closed};
@@ -33,7 +33,7 @@ impl<W: Work> Play<Option<W>, Known<W::Job>> for Open<W> {
 pub struct Post<W>(PhantomData<W>);
 
 impl<W: Work> Play<Option<W>, Known<W::Job>> for Post<W> {
-    ghost then = { writes (posted W.job) };
+    ghost then = { leaves (posted W.job) };
 }
 
 /// The word goes from 1 to 2, or was another.
@@ -47,7 +47,7 @@ impl<W: Work> Play<Option<W>, Known<W::Job>> for Claim<W> {
 pub struct GiveBack<W>(PhantomData<W>);
 
 impl<W: Work> Play<Option<W>, Known<W::Job>> for GiveBack<W> {
-    ghost then = { writes given_back };
+    ghost then = { leaves given_back };
 }
 
 /// The word goes from 3 to 0, or was another.

@@ -1,10 +1,10 @@
 // The calls of the task.
-ghost use Rattle.std.specs.Prelude.{◌≡◌, ℕ, ◌+◌, ◌<◌, ◌≤◌, true, false, replicate, slice_set, IfOk, IfSome, IfNone, IsSome, ◌∷◌, None};
+ghost use Rattle.std.specs.Prelude.{◌≡◌, ℕ, ◌+◌, ◌<◌, ◌≤◌, true, false, replicate, slice_set, IfOk, IfSome, IfNone, IsSome, [], ◌∷◌, None};
 ghost use lib.ListN.{get_elem?};
 ghost use mathlib.Core.Option.{some};
 ghost use Rattle.ax_board.specs.Seats.{at_home};
 ghost use Rattle.ax_board.specs.Trail.{Rang, Tried};
-ghost use Rattle.ax_board.specs.Words.{table, task_table, work_table, notes, holds, task_found};
+ghost use Rattle.ax_board.specs.Words.{table, task_table, work_table, notes, holds, task_found, work_found};
 ghost use Rattle.ax_board.specs.declared.view.Note.TheVariants.{Closed, Home, Out};
 
 use crate::board::Board;
@@ -87,7 +87,7 @@ impl<W: Work> Board<W> {
         seat.home[usize::from(cell)]
     }
 
-    /// Puts work out at a cell, and rings the work bell. Conditions: `is_home`, and the work was not run.
+    /// Puts work out at a cell, and then rings the work bell. Conditions: `is_home`, and the work was not run.
     pub fn post(&self, seat: &mut TaskSeat<W>, cell: u16, work: W)
         requires board { task_table seat.old ≡ table self.now }
         requires cell { cell < self.now.cells }
@@ -95,7 +95,7 @@ impl<W: Work> Board<W> {
         requires fresh { W.was_run work ≡ false }
         ensures board { task_table seat.new ≡ table self.now }
         ensures notes { notes seat.new ≡ slice_set (notes seat.old) cell (Out (W.job work)) }
-        ensures rang { Rang (self.now.cells + 1) (task_found seat.old) (task_found seat.new) }
+        ensures rang { Rang (self.now.cells + 1) ((cell, 1) ∷ task_found seat.old) (task_found seat.new) }
     {
         self.post_at(seat, usize::from(cell), work);
     }
@@ -107,7 +107,7 @@ impl<W: Work> Board<W> {
         requires fresh { W.was_run work ≡ false }
         ensures board { task_table seat.new ≡ table self.now }
         ensures notes { notes seat.new ≡ slice_set (notes seat.old) at (Out (W.job work)) }
-        ensures rang { Rang (self.now.cells + 1) (task_found seat.old) (task_found seat.new) }
+        ensures rang { Rang (self.now.cells + 1) ((at, 1) ∷ task_found seat.old) (task_found seat.new) }
     {
         seat.bring(at);
         let TaskSeat { seat, order, home } = seat;
@@ -118,9 +118,9 @@ impl<W: Work> Board<W> {
         self.ring(seat, self.cells + 1);
     }
 
-    /// Takes the work of a cell back, if it was given back. Condition: not `is_home`. It is the work that
-    /// was posted there last, run, with its result. `None` exactly where this call's exchange found the
-    /// cell's word not at 3.
+    /// Takes the work of a cell back, if it was given back. Condition: not `is_home`. It has the job
+    /// of the work that was posted there last, was run, and has its result. `None` exactly where this
+    /// call's exchange found the cell's word not at 3.
     pub fn collect(&self, seat: &mut TaskSeat<W>, cell: u16) -> Option<W>
         requires board { task_table seat.old ≡ table self.now }
         requires cell { cell < self.now.cells }
@@ -166,8 +166,10 @@ impl<W: Work> Board<W> {
         requires board { task_table seat.old ≡ table self.now }
         ensures board { task_table seat.new ≡ table self.now }
         ensures notes { notes seat.new ≡ notes seat.old }
+        ensures found { task_found seat.new ≡ task_found seat.old }
         ensures worker { work_table result ≡ table self.now }
         ensures empty { holds result ≡ None }
+        ensures unused { work_found result ≡ [] }
     {
         let TaskSeat { seat, .. } = seat;
         WorkSeat {
@@ -177,12 +179,15 @@ impl<W: Work> Board<W> {
     }
 
     /// Ends a worker's seat. Condition: it is empty.
+    /// No more is promised of it than that the board's rule holds on, and that what the task's seat knows
+    /// stays.
     pub fn join(&self, seat: &mut TaskSeat<W>, other: WorkSeat<W>)
         requires board { task_table seat.old ≡ table self.now }
         requires worker { work_table other ≡ table self.now }
         requires empty { holds other ≡ None }
         ensures board { task_table seat.new ≡ table self.now }
         ensures notes { notes seat.new ≡ notes seat.old }
+        ensures found { task_found seat.new ≡ task_found seat.old }
     {
         let TaskSeat { seat, .. } = seat;
         let WorkSeat { seat: other, .. } = other;

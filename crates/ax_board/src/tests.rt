@@ -65,7 +65,7 @@ fn one_cell(rt: HostRuntime) -> Result<(), Fail> {
     if let Some(work) = board.collect(&mut task, 0) {
         to = work.to;
     }
-    assert_eq!(rt; to, 6);
+    assert!(rt; to == 6 && board.is_home(&task, 0));
     board.join(&mut task, one);
     board.close(task);
     Ok(())

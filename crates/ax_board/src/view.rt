@@ -21,5 +21,5 @@ pub enum View<J> {
     Spent,
 }
 
-/// A view, and the words that the seat found, the last one first, each with its place.
+/// A view, and the numbers that the seat found or left in words, the last one first, each with its word.
 pub type Known<J> = (View<J>, LinkedList<(u64, u64)>);

@@ -21,8 +21,9 @@ impl<W: Work> WorkSeat<W> {
 }
 
 impl<W: Work> Board<W> {
-    /// Claims the work that is posted at a cell, which no other worker then gets. Condition: the seat is
-    /// empty. `None` exactly where this call's exchange found the cell's word not at 1.
+    /// Claims the work that is posted at a cell. Condition: the seat is empty. `None` exactly where this
+    /// call's exchange found the cell's word not at 1. That no other worker holds the work is the law
+    /// `one_worker_holds`.
     pub fn claim(&self, seat: &mut WorkSeat<W>, cell: u16) -> Option<Held<W>>
         requires board { work_table seat.old ≡ table self.now }
         requires cell { cell < self.now.cells }
@@ -61,7 +62,7 @@ impl<W: Work> Board<W> {
         self.table.shared.exchange(seat, at, None)
     }
 
-    /// Gives work back at its cell, and rings the back bell. Conditions: it was run, and this is the seat
+    /// Gives work back at its cell, and then rings the back bell. Conditions: it was run, and this is the seat
     /// that claimed it. Then the seat is empty.
     pub fn give_back(&self, seat: &mut WorkSeat<W>, held: Held<W>)
         requires board { work_table seat.old ≡ table self.now }
@@ -70,7 +71,7 @@ impl<W: Work> Board<W> {
         requires same { holds seat.old ≡ Some (held.cell, W.job held.work) }
         ensures board { work_table seat.new ≡ table self.now }
         ensures empty { holds seat.new ≡ None }
-        ensures rang { Rang (self.now.cells + 2) (work_found seat.old) (work_found seat.new) }
+        ensures rang { Rang (self.now.cells + 2) ((held.cell, 3) ∷ work_found seat.old) (work_found seat.new) }
     {
         let Held {
             work,
@@ -78,6 +79,7 @@ impl<W: Work> Board<W> {
             is_run: _,
         } = held;
         self.give_at(seat, usize::from(cell), work);
+        self.ring(&mut seat.seat, self.cells + 2);
     }
 
     fn give_at(&self, seat: &mut WorkSeat<W>, at: usize, work: W)
@@ -87,13 +89,12 @@ impl<W: Work> Board<W> {
         requires same { holds seat.old ≡ Some (at, W.job work) }
         ensures board { work_table seat.new ≡ table self.now }
         ensures empty { holds seat.new ≡ None }
-        ensures rang { Rang (self.now.cells + 2) (work_found seat.old) (work_found seat.new) }
+        ensures found { work_found seat.new ≡ (at, 3) ∷ work_found seat.old }
     {
         let WorkSeat { seat, empty } = seat;
         drop(self.table.shared.exchange(seat, at, Some(work)));
         self.table.shared.store::<GiveBack<W>>(seat, at, 3);
         *empty = true;
-        self.ring(seat, self.cells + 2);
     }
 
     /// The task called `stop`. True exactly where this call's load found the stop word at 1, and false

@@ -61,4 +61,4 @@ invariant_of-seat-clause-room g c = let s = c.bring.new.self in
 
 pub returns-clause-rang : goal.returns-clause-rang
 returns-clause-rang g c = let r = c.ring.ensures.rang in
-    (r.0, r.1 ∙ ap (λ t. (c.args.self.now.cells + 1, (r.0 + 1) % 2 ^ 64) ∷ (c.args.self.now.cells + 1, r.0) ∷ t) (c.store.ensures.2.1 ∙ (ap (λ k. k.0.1) c.exchange.ensures.3 ∙ c.bring.ensures.found)))
+    (r.0, r.1 ∙ ap (λ t. (c.args.self.now.cells + 1, (r.0 + 1) % 2 ^ 64) ∷ (c.args.self.now.cells + 1, r.0) ∷ t) (c.store.ensures.2.1 ∙ ap (λ t. (c.args.at, 1) ∷ t) (ap (λ k. k.0.1) c.exchange.ensures.3 ∙ c.bring.ensures.found)))
