@@ -97,7 +97,7 @@ impl<W: Work> Board<W> {
         *empty = true;
     }
 
-    /// The task called `stop`. True exactly where this call's load found the stop word at 1, and false
+    /// Whether the stop word is set. True exactly where this call's load found the stop word at 1, and false
     /// exactly where it found 0.
     pub fn stopped(&self, seat: &mut WorkSeat<W>) -> bool
         requires board { work_table seat.old ≡ table self.now }
