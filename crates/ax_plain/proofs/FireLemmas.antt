@@ -20,10 +20,10 @@ use Rattle.ax_time.specs.declared.timer.Timer.{Timer}
 use Rattle.ax_time.specs.Timers.{times_of, PutsTimes}
 use Rattle.ax_time.proofs.KeptLemmas.{same_key}
 use Rattle.ax_machine.specs.Entries.{Key, Entry, says, text_of, entry_text}
-use Rattle.ax_machine.specs.Firings.{most_firings, one_less, total}
+use Rattle.ax_machine.specs.Firings.{most_firings, one_less}
 use Rattle.ax_machine.specs.Firings as machine
 use Rattle.ax_machine.specs.Sync.{Map, Plain, does, without_least, fire, fire_all, all_fired, silent}
-use Rattle.ax_machine.proofs.FiringLemmas.{key_is, total_most, fire_all_next, fire_all_end}
+use Rattle.ax_machine.proofs.FiringLemmas.{total, key_is, total_most, fire_all_next, fire_all_end}
 use Rattle.ax_machine.proofs.StepLemmas.{fire_all_writes, text_of-append}
 use Rattle.ax_lang.specs.declared.program.Program.{Program as CodeProgram}
 use Rattle.ax_lang.specs.Shown.{shown_program, text_from}
