@@ -74,7 +74,13 @@ fn same_scan(rt: &impl Abort, store: &RunStore, map: &Plain, prefix: &[u8]) -> R
 }
 
 // A key is set in both.
-fn put(alloc: Global, store: &mut RunStore, map: &mut Plain, key: &[u8], value: u8) -> Result<(), Fail> {
+fn put(
+    alloc: Global,
+    store: &mut RunStore,
+    map: &mut Plain,
+    key: &[u8],
+    value: u8,
+) -> Result<(), Fail> {
     store.put(key, &[value])?;
     map.insert(key.to_vec(alloc)?, [value].to_vec(alloc)?)?;
     Ok(())
@@ -108,7 +114,10 @@ fn call(
         _ => put(alloc, store, map, key, kind)?,
     }
     let value = store.get(key)?;
-    assert_eq!(rt; value.as_ref().map(|v| v.as_slice()), map.get(key).map(|v| v.as_slice()));
+    assert_eq!(rt;
+        value.as_ref().map(|v| v.as_slice()),
+        map.get(key).map(|v| v.as_slice())
+    );
     Ok(())
 }
 
@@ -120,7 +129,9 @@ fn mixed_calls(rt: &impl Abort, alloc: Global, most: u32) -> Result<(), Fail>
     let mut map = Plain::new(alloc);
     let mut x = u64::from(most);
     for _ in 0..2500 {
-        x = x.wrapping_mul(6364136223846793005).wrapping_add(1442695040888963407);
+        x = x
+            .wrapping_mul(6364136223846793005)
+            .wrapping_add(1442695040888963407);
         let text = b"abcdabacbdcaddbccb";
         let start = (x >> 40) % 14;
         let len = (x >> 46) % 4;
