@@ -1,5 +1,5 @@
 -- A run of deletes over a map.
-use Rattle.std.proofs.Common.{◌≡◌, ◌∙◌, ℕ, Bool, true, false, not, cond, List, [], ◌∷◌, Option, Some, None, refl, sym, ap, subst, map, length}
+use Rattle.std.proofs.Common.{◌≡◌, ◌∙◌, Bool, true, false, not, cond, List, [], ◌∷◌, Option, Some, None, refl, sym, ap, map}
 use Rattle.std.specs.Prelude.{◌&&◌}
 use Rattle.std.specs.Ordering.{is_lt, is_eq}
 use Rattle.std.specs.declared.cmp.Ordering.{Ordering}
@@ -11,9 +11,9 @@ use Rattle.std.specs.FinMap.Entries.{find, is_sorted, below_all}
 use lib.Dec.{T}
 use Rattle.std.proofs.lemmas.Map.Lookups.{exact_bytes}
 use Rattle.ax_store.specs.declared.change.Change.{Change}
-use Rattle.ax_store.specs.declared.change.Change.TheVariants.{Put, Delete}
+use Rattle.ax_store.specs.declared.change.Change.TheVariants.{Delete}
 use Rattle.ax_store.specs.Held.{Text, Content, bytes_cmp}
-use Rattle.ax_store.specs.Entries.{Layer, IsRising, deletes, entry_at}
+use Rattle.ax_store.specs.Entries.{IsRising, deletes, entry_at}
 use Rattle.ax_store.specs.Layers.{over}
 use Rattle.ax_store.proofs.ContentLemmas.{by_entry, get_over, same_content}
 

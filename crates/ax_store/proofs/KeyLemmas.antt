@@ -1,11 +1,10 @@
 -- Entries whose keys lie in vectors, as a layer.
-use Rattle.std.proofs.Common.{◌≡◌, ◌∙◌, ℕ, ◌+◌, ◌≤◌, Bool, true, false, not, ◌&&◌, cond, List, [], ◌∷◌, Option, Some, None, refl, sym, ap, arith, map, length, Vec, Global}
-use Rattle.std.specs.Ordering.{nat_cmp, is_lt, is_le, is_eq, match_ordering, ordering_reverse}
+use Rattle.std.proofs.Common.{◌≡◌, ◌∙◌, ℕ, ◌+◌, ◌≤◌, Bool, true, false, ◌&&◌, cond, List, [], ◌∷◌, Some, refl, sym, ap, arith, map, length, Vec, Global}
+use Rattle.std.specs.Ordering.{is_lt, is_le, is_eq, match_ordering, ordering_reverse}
 use Rattle.std.specs.declared.cmp.Ordering.{Ordering}
 use Rattle.std.specs.declared.cmp.Ordering.TheVariants.{Less, Equal, Greater}
-use Rattle.std.specs.Cmp.{IsTotalOrder}
 use Rattle.std.specs.Cmp.Lexicographic.{nat_list_cmp_total}
-use Rattle.std.specs.FinMap.Entries.{find, put, find-put, by_order}
+use Rattle.std.specs.FinMap.Entries.{put, find-put, by_order}
 use Rattle.std.specs.List.{All, AllByRecursion, filter}
 use Rattle.std.proofs.lemmas.List.Elements.{All-cons, All-nil}
 use Rattle.std.specs.List.Sorted.{IsStrictlySortedBy}

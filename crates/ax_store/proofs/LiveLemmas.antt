@@ -1,23 +1,23 @@
 -- The cells of a layer over nothing, as a map's entries.
-use Rattle.std.proofs.Common.{◌≡◌, ◌∙◌, ℕ, Bool, true, false, cond, List, [], ◌∷◌, ◌++◌, ◌≤◌, ◌+◌, Option, Some, None, refl, sym, ap, subst, map, length, length-append, arith}
+use Rattle.std.proofs.Common.{◌≡◌, ◌∙◌, Bool, true, false, cond, List, [], ◌∷◌, ◌++◌, ◌≤◌, ◌+◌, Option, Some, None, refl, sym, ap, subst, length, length-append, arith}
 use Rattle.std.specs.Prelude.{◌&&◌}
-use Rattle.std.specs.Ordering.{nat_cmp, is_lt, is_eq, eq_by_cmp}
+use Rattle.std.specs.Ordering.{is_lt, is_eq}
 use Rattle.std.specs.declared.cmp.Ordering.{Ordering}
 use Rattle.std.specs.declared.cmp.Ordering.TheVariants.{Less, Equal, Greater}
 use Rattle.std.specs.Cmp.Lexicographic.{nat_list_cmp_total}
-use Rattle.std.specs.List.{AllByRecursion, filter}
+use Rattle.std.specs.List.{filter}
 use Rattle.std.specs.List.Sorted.{IsStrictlySortedBy}
-use Rattle.std.specs.FinMap.{entries, entries_sorted, get, get-entries, get-retain_keys, retain_keys, slice_cmp-IsAntisymmetric, nat_cmp-IsAntisymmetric}
+use Rattle.std.specs.FinMap.{entries, entries_sorted, get, get-entries, get-retain_keys, retain_keys}
 use Rattle.std.specs.FinMap.Entries.{find, is_sorted, below_all, same_entries}
 use lib.Dec.{T}
 use Rattle.std.proofs.lemmas.Map.Lookups.{exact_bytes}
 use Rattle.ax_store.specs.declared.change.Change.{Change}
 use Rattle.ax_store.specs.declared.change.Change.TheVariants.{Put, Delete}
-use Rattle.ax_store.specs.Held.{Text, Content, bytes_cmp, begins}
+use Rattle.ax_store.specs.Held.{Text, bytes_cmp, begins}
 use Rattle.ax_store.specs.Entries.{Layer, IsRising, entry_at, is_put, live, or_below}
 use Rattle.ax_store.specs.Layers.{content_of, newest_of, shown}
 use Rattle.ax_store.proofs.ContentLemmas.{get_content, same_content}
-use Rattle.ax_store.proofs.MergeLemmas.{Above, none_above, above_more}
+use Rattle.ax_store.proofs.MergeLemmas.{Above}
 
 both : (a b : Bool) → T a → T b → T (a && b)
 both true b h k = k

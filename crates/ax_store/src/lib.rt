@@ -15,8 +15,6 @@ mod memtable;
 mod merge;
 mod run;
 pub mod run_store;
-#[cfg(test)]
-mod tests;
 
 pub use cell::{Cell, Cells};
 pub use run_store::RunStore;

@@ -39,6 +39,8 @@ mod snapshots;
 #[cfg(test)]
 mod states;
 #[cfg(test)]
+mod stores;
+#[cfg(test)]
 mod streams;
 #[cfg(test)]
 mod texts;

@@ -1,7 +1,5 @@
-use Rattle.std.proofs.Common.{◌≡◌, ◌∙◌, ◌+◌, ◌≤◌, arith, rules, refl, ap, sym, length, vec_len}
+use Rattle.std.proofs.Common.{◌≡◌, arith, rules, refl, length}
 use Rattle.std.specs.Vec.Iter.{into_iter_len}
-use Rattle.ax_store.specs.Entries.{merged}
-use Rattle.ax_store.specs.Merge.{left}
 use Rattle.ax_store.proofs.MergeLemmas.{length-merged}
 use Rattle.ax_store.proofs.merge.merge_into.Goals as goal
 

@@ -1,6 +1,6 @@
-use Rattle.std.proofs.Common.{◌≡◌, ◌∙◌, ap, sym, subst, drop, List, IfOk, Result}
+use Rattle.std.proofs.Common.{◌∙◌, ap}
 use Rattle.std.proofs.lemmas.Result.{IfOk-weaker}
-use Rattle.ax_store.specs.Entries.{part, is_before}
+use Rattle.ax_store.specs.Entries.{part}
 use Rattle.ax_store.proofs.PrefixLemmas.{part_from, rising_rest, rest_is}
 use Rattle.ax_store.proofs.run.part_of.Goals as goal
 

@@ -1,4 +1,4 @@
-use Rattle.std.proofs.Common.{rules, ◌≡◌}
+use Rattle.std.proofs.Common.{rules}
 use Rattle.std.proofs.lemmas.Fn.{always_returns_same}
 use Rattle.ax_store.specs.Entries.{is_before}
 use Rattle.ax_store.proofs.PrefixLemmas.{parted}

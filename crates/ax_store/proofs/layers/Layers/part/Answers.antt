@@ -1,8 +1,8 @@
-use Rattle.std.proofs.Common.{◌≡◌, ◌∙◌, ap, cond, None, List, Option, sym}
+use Rattle.std.proofs.Common.{◌≡◌, ◌∙◌, ap, cond, None, List, Option}
 use Rattle.std.proofs.lemmas.Result.{IfOk-weaker}
 use Rattle.ax_store.specs.declared.change.Change.{Change}
 use Rattle.ax_store.specs.Held.{Text, begins}
-use Rattle.ax_store.specs.Entries.{Layer, entry_at, or_below, part}
+use Rattle.ax_store.specs.Entries.{Layer, entry_at, or_below}
 use Rattle.ax_store.specs.Layers.{newest_of}
 use Rattle.ax_store.proofs.MergeLemmas.{begun}
 use Rattle.ax_store.proofs.PrefixLemmas.{entry-part}

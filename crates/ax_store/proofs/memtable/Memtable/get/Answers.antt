@@ -1,4 +1,4 @@
-use Rattle.std.proofs.Common.{◌≡◌, ◌∙◌, ap}
+use Rattle.std.proofs.Common.{◌∙◌, ap}
 use Rattle.ax_store.specs.Entries.{Layer, entry_at}
 use Rattle.ax_store.proofs.KeyLemmas.{entry-texts}
 use Rattle.ax_store.proofs.memtable.Memtable.get.Goals as goal

@@ -1,8 +1,8 @@
-use Rattle.std.proofs.Common.{◌≡◌, ◌∙◌, ap, cond, length, subst, sym, Some, ℕ, ◌≤◌, ◌+◌, arith}
-use Rattle.std.specs.BTreeMap.{insert_entry, is_at}
+use Rattle.std.proofs.Common.{◌∙◌, ap, cond, Some}
+use Rattle.std.specs.BTreeMap.{is_at}
 use Rattle.ax_store.specs.Held.{bytes_cmp}
 use Rattle.ax_store.specs.Entries.{Layer, entry_at, texts}
-use Rattle.ax_store.proofs.KeyLemmas.{Grows, entry-insert, length-insert, texts-insert}
+use Rattle.ax_store.proofs.KeyLemmas.{entry-insert, texts-insert}
 use Rattle.ax_store.proofs.memtable.Memtable.insert.Goals as goal
 
 pub returns-in-Ok-clause-ok : goal.returns-in-Ok-clause-ok

@@ -3,7 +3,7 @@ use Rattle.std.specs.List.{All, filter}
 use Rattle.std.proofs.lemmas.Result.{IfOk-weaker}
 use Rattle.ax_store.specs.declared.change.Change.{Change}
 use Rattle.ax_store.specs.Held.{Text}
-use Rattle.ax_store.specs.Entries.{Layer, IsRising, is_before, part, texts}
+use Rattle.ax_store.specs.Entries.{IsRising, is_before, part, texts}
 use Rattle.ax_store.proofs.KeyLemmas.{Key, kept, from_kept, part_kept, rising_kept, rising-texts}
 use Rattle.ax_store.proofs.PrefixLemmas.{rising-part}
 use Rattle.ax_store.proofs.memtable.Memtable.part.Goals as goal

@@ -1,5 +1,4 @@
-use Rattle.std.proofs.Common.{◌≡◌, ◌∙◌, ap, cond, None, sym, subst}
-use Rattle.ax_store.specs.Held.{begins}
+use Rattle.std.proofs.Common.{◌≡◌, ◌∙◌, ap, sym, subst}
 use Rattle.ax_store.specs.Entries.{Layer, IsRising, entry_at, part}
 use Rattle.ax_store.proofs.PrefixLemmas.{entry-part, rising-part}
 use Rattle.ax_store.proofs.run.Run.part.Goals as goal

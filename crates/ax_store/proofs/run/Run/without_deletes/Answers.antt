@@ -1,7 +1,7 @@
 use Rattle.std.proofs.Common.{◌≡◌, ◌∙◌, ap, rules, subst, sym}
 use Rattle.std.specs.List.{filter}
 use Rattle.std.proofs.lemmas.Fn.{filter_same}
-use Rattle.ax_store.specs.Entries.{Layer, IsRising, is_put}
+use Rattle.ax_store.specs.Entries.{IsRising, is_put}
 use Rattle.ax_store.proofs.PrefixLemmas.{rising-filter}
 use Rattle.ax_store.proofs.run.Run.without_deletes.Goals as goal
 

@@ -1,5 +1,5 @@
-use Rattle.std.proofs.Common.{◌≡◌, ◌∙◌, ◌+◌, ◌==◌, if◌then◌else◌, ℕ, List, ap, ap₂, length, map, not, sym, subst}
-use Rattle.std.specs.FinMap.{entries, len, len-entries, retain_keys}
+use Rattle.std.proofs.Common.{◌≡◌, ◌∙◌, ◌+◌, ◌==◌, if◌then◌else◌, ℕ, List, ap, ap₂, length, not, sym, subst}
+use Rattle.std.specs.FinMap.{len, len-entries, retain_keys}
 use Rattle.std.proofs.lemmas.List.{length-map}
 use Rattle.std.proofs.lemmas.Result.{on_ok_weaker}
 use Rattle.ax_store.specs.Held.{Content, Text, begins, pair_of, runs_after_flush}

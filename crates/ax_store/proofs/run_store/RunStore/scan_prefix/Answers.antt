@@ -1,4 +1,4 @@
-use Rattle.std.proofs.Common.{◌≡◌, ◌∙◌, ap}
+use Rattle.std.proofs.Common.{◌∙◌, ap}
 use Rattle.std.specs.FinMap.{entries, retain_keys}
 use Rattle.std.proofs.lemmas.Result.{IfOk-weaker}
 use Rattle.ax_store.specs.Held.{Held, begins}
