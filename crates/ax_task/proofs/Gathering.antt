@@ -13,7 +13,7 @@ use Rattle.ax_text.specs.Programs.{Program}
 use Rattle.ax_machine.specs.Entries.{text_of}
 use Rattle.ax_machine.specs.Events.{Event}
 use Rattle.ax_task.specs.Parse.{Stream}
-use Rattle.ax_task.specs.Clause.{Holds, WritesLawful, WritesPart, StreamEnds, RunCounts, EndCounts}
+use Rattle.ax_task.specs.Clause.{WritesLawful, WritesPart, StreamEnds, RunCounts, EndCounts}
 use Rattle.ax_task.specs.Reads.{sink_end, is_stopped}
 use Rattle.ax_task.specs.Passes.{Feed, Taken, Took, Wrote}
 use Rattle.ax_plain.proofs.RunLemmas.{AppendsSome-all}

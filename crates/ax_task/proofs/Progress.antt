@@ -1,11 +1,11 @@
 -- How far a run has come.
-use Rattle.std.proofs.Common.{◌≡◌, ℕ, List, [], ◌∷◌, ◌++◌, true, Bool, Option, Some, None, Ok, Err, refl, sym, ap, ◌∙◌, append_assoc, subst}
+use Rattle.std.proofs.Common.{◌≡◌, ℕ, List, [], ◌∷◌, ◌++◌, Bool, Option, Some, None, Err, refl, sym, ap, ◌∙◌, append_assoc, subst}
 use Rattle.std.specs.Io.KnownBytes.{Appends}
 use Rattle.std.proofs.lemmas.List.{append-nil}
 use Rattle.ax_base.specs.Outside.{Told, AppendsSome}
 use Rattle.ax_base.specs.declared.outside.SinkFault.{SinkFault}
 use Rattle.ax_base.specs.declared.outside.SinkFault.TheVariants as sink
-use Rattle.ax_base.proofs.OutsideLemmas.{Appends-none, Appends-more, Told-trans, Told-map}
+use Rattle.ax_base.proofs.OutsideLemmas.{Appends-none, Appends-more, Told-trans}
 use Rattle.ax_plain.proofs.RunLemmas.{AppendsSome-none, AppendsSome-all, AppendsSome-behind}
 use Rattle.ax_text.specs.Programs.{Program}
 use Rattle.ax_machine.specs.Entries.{Entry, text_of, lines_of}
@@ -15,14 +15,12 @@ use Rattle.ax_machine.specs.Lawful.{cuts, markers, Lawful, LawfulSoFar, LawfulSo
 use Rattle.ax_machine.proofs.LawfulLemmas.{lawful_itself}
 use Rattle.ax_machine.proofs.FrontLemmas.{lawful_so_far_front}
 use Rattle.ax_machine.proofs.StepLemmas.{step_behind, steps_append, text_of-append}
-use Rattle.ax_input.specs.declared.event.Event.{Event as CodeEvent}
 use Rattle.ax_task.specs.Parse.{Stream, Ending, Clean, Fault, with_event, ends}
 use Rattle.ax_task.specs.Clause.{Holds, WritesLawful, WritesPart, StreamEnds}
 use Rattle.ax_task.specs.Reads.{NextOf, sink_end, end_in_stream}
-use Rattle.ax_task.specs.Passes.{Feed, Passed, in_front, SomePassed, NextPasses, Taken, Took, Wrote}
+use Rattle.ax_task.specs.Passes.{in_front, SomePassed, NextPasses, Taken, Took, Wrote}
 use Rattle.ax_task.proofs.Feeds.{feed, Passed-none, Passed-trans, Passed-as, Passed-map}
 use Rattle.ax_task.proofs.Passing.{Goes}
-use Rattle.ax_task.specs.declared.end.End.{End}
 use Rattle.ax_task.specs.declared.end.End.TheVariants as end
 use Rattle.ax_task.specs.declared.read_fault.ReadFault.{ReadFault}
 use Rattle.ax_task.specs.declared.read_fault.ReadFault.TheVariants as read

@@ -144,6 +144,7 @@ fn run_gathered<S: Source, K: Sink, B: Begun>(
     out: &mut K,
 ) -> End
     requires held { K.holds out.now ≡ B.held }
+    requires base { K.base out.now ≡ B.base }
     requires sound { lines.old.failed ≡ false }
     requires some { 1 ≤ groups }
     requires most { groups ≤ 32768 }

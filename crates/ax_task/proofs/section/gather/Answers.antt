@@ -1,4 +1,4 @@
-use Rattle.std.proofs.Common.{rules, ◌∙◌, sym, ap, arith}
+use Rattle.std.proofs.Common.{rules, ◌∙◌, sym, ap}
 use Rattle.ax_input.specs.Events.{is_skipped}
 use Rattle.ax_task.specs.Sections.{is_section_end}
 use Rattle.ax_task.proofs.Passing.{section_skips, section_keeps, section_kept, section_found, section_fails, section_lacks}

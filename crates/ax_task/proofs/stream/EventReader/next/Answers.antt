@@ -1,4 +1,4 @@
-use Rattle.std.proofs.Common.{rules, ◌∙◌, sym, ap, arith}
+use Rattle.std.proofs.Common.{rules, ◌∙◌, sym, ap}
 use Rattle.ax_input.specs.Events.{is_skipped}
 use Rattle.ax_task.proofs.Passing.{goes_on, next_skips, next_event_passes, next_err_passes, next_fails, some_passes}
 use Rattle.ax_task.specs.Passes.{events_at}
