@@ -1,4 +1,4 @@
-//! Batches of the request buffer, and a longer run beside a plain list.
+//! Batches of requests, and a longer run beside a plain list.
 ghost use Rattle.std.specs.Prelude.{◌≡◌, ◌<◌, length};
 
 use ax_base::NoMemory;
