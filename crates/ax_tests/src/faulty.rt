@@ -90,7 +90,7 @@ impl Sink for FaultySink {
 
     ghost counts = { λ s. record { faults = s.faults; short = s.short } };
 
-    ghost base = { λ s. None };
+    ghost base = { λ s. 0 };
 
     fn write(&mut self, piece: &[u8]) -> Result<usize, SinkFault> {
         let before = self.writes;
