@@ -8,16 +8,16 @@ use Rattle.std.proofs.lemmas.List.Folds.{list_all-append}
 use Rattle.ax_base.specs.Numbers.{is_number}
 use Rattle.ax_keys.specs.Keys.{is_key}
 use Rattle.ax_text.specs.Names.{is_name}
-use Rattle.ax_text.specs.Cells.{Cell, Value as ValueCell, Cells}
+use Rattle.ax_text.specs.Cells.{Cell, Value as ValueCell, Items as ItemsCell, Entries as EntriesCell, Cells}
 use Rattle.ax_text.specs.Programs.{State}
 use Rattle.ax_text.specs.Valid.{names_of}
 use Rattle.ax_machine.specs.Entries.{Key, Entry, Watermark, Block, entry_text, text_of}
 use Rattle.ax_machine.specs.Entries as entry
-use Rattle.ax_machine.specs.OutLines.{OutLine, Out, Mark, Head, Value, Timer, End, line_of, spelled, lines_text}
-use Rattle.ax_machine.specs.Blocks.{Part, block_cmp, placed_from, placed, cell_lines, state_lines, timer_lines, part_lines, inner_lines, framed, block_text}
+use Rattle.ax_machine.specs.OutLines.{OutLine, Out, Mark, Head, Value, Item, Entry as EntryLine, Timer, End, line_of, spelled, lines_text}
+use Rattle.ax_machine.specs.Blocks.{Part, block_cmp, placed_from, placed, value_lines, item_lines, entry_lines, cell_lines, state_lines, timer_lines, part_lines, inner_lines, framed, block_text}
 use Rattle.ax_input.specs.OutLines.{is_place, is_line}
 use Rattle.ax_input.specs.Laws.{is_of_key, IsBlock, IsPlain}
-use Rattle.ax_input.proofs.RunLemmas.{cell_good, GoodState}
+use Rattle.ax_input.proofs.RunLemmas.{entry_good, cell_good, GoodState}
 
 abbrev pub line_ok : OutLine → Bool
 line_ok l = is_of_key l && is_line l
@@ -45,9 +45,23 @@ placed_good m es (p ∷ ps) h g = placed_good m (insert_entry (block_cmp m) es p
 all_both : {A : Type 0} (p : A → Bool) (xs ys : List A) → list_all p xs ≡ true → list_all p ys ≡ true → list_all p (xs ++ ys) ≡ true
 all_both p xs ys h g = list_all-append p xs ys ∙ and_from (list_all p xs) (list_all p ys) h g
 
+items_ok : (k : Key) (name : List ℕ) (ns : List ℤ) → is_place k name ≡ true → list_all is_number ns ≡ true → list_all line_ok (item_lines k name ns) ≡ true
+items_ok k name [] h e = refl
+items_ok k name (n ∷ ns) h e =
+    let p = and_parts (is_number n) (list_all is_number ns) e in
+    and_from (line_ok (Item k name n)) (list_all line_ok (item_lines k name ns)) (and_from (is_place k name) (is_number n) h p.0) (items_ok k name ns h p.1)
+
+entries_ok : (k : Key) (name : List ℕ) (es : List (ℤ × ℤ)) → is_place k name ≡ true → list_all entry_good es ≡ true → list_all line_ok (entry_lines k name es) ≡ true
+entries_ok k name [] h e = refl
+entries_ok k name (x ∷ xs) h e =
+    let p = and_parts (entry_good x) (list_all entry_good xs) e in
+    and_from (line_ok (EntryLine k name x.0 x.1)) (list_all line_ok (entry_lines k name xs)) (and_from (is_place k name) (is_number x.0 && is_number x.1) h p.0) (entries_ok k name xs h p.1)
+
 cell_ok : (k : Key) (name : List ℕ) (c : Cell) → is_key k ≡ true → is_name name ≡ true → cell_good c ≡ true → list_all line_ok (cell_lines k name c) ≡ true
 cell_ok k name (ValueCell None) h g e = refl
 cell_ok k name (ValueCell (Some n)) h g e = and_from (line_ok (Value k name n)) true (and_from (is_place k name) (is_number n) (and_from (is_key k) (is_name name) h g) e) refl
+cell_ok k name (ItemsCell items) h g e = items_ok k name items (and_from (is_key k) (is_name name) h g) e
+cell_ok k name (EntriesCell entries) h g e = entries_ok k name entries (and_from (is_key k) (is_name name) h g) e
 
 states_ok : (k : Key) (i : ℕ) (ss : List State) (cells : Cells) → is_key k ≡ true → list_all is_name (names_of ss) ≡ true → ((j : ℕ) → cell_good (cells j) ≡ true) → list_all line_ok (state_lines k i ss cells) ≡ true
 states_ok k i [] cells h g e = refl

@@ -21,5 +21,6 @@ pub use event::{Event, EventFault, is_skipped, read_event, read_line};
 pub use line::{OutLine, SnapLine};
 pub use read::read_out_line;
 pub use write::{
-    put_end, put_event, put_head, put_out, put_out_line, put_timer, put_value, put_watermark,
+    put_end, put_entry, put_event, put_head, put_item, put_out, put_out_line, put_timer, put_value,
+    put_watermark,
 };

@@ -9,7 +9,7 @@ ghost use Rattle.ax_input.specs.Shown.{shown_event, shown_snap, shown_line};
 use crate::draft::Draft;
 use crate::event::Event;
 use crate::line::{OutLine, SnapLine};
-use ax_base::{Bytes, NoMemory};
+use ax_base::{Bytes, NoMemory, Pair};
 use ax_keys::Key;
 use itoa::Buffer;
 use std::alloc::Global;
@@ -263,6 +263,38 @@ pub fn put_value(
 {
     let mut draft = Draft::behind(alloc, out);
     let put = draft_value(&mut draft, key, state, number);
+    draft.end(out, put)
+}
+
+/// Appends the line of an item of a list state, with its line feed. After `NoMemory` the bytes are as before.
+pub fn put_item(
+    alloc: Global,
+    out: &mut Bytes,
+    key: &Key,
+    state: &Bytes,
+    number: i64,
+) -> Result<(), NoMemory>
+    ensures ok { OnOk result (out.new ≡ out.old ++ spelled (Item key.now state.now number)) }
+    ensures err { OnErr result (out.new ≡ out.old) }
+{
+    let mut draft = Draft::behind(alloc, out);
+    let put = draft_item(&mut draft, key, state, number);
+    draft.end(out, put)
+}
+
+/// Appends the line of an entry of a map state, with its line feed. After `NoMemory` the bytes are as before.
+pub fn put_entry(
+    alloc: Global,
+    out: &mut Bytes,
+    key: &Key,
+    state: &Bytes,
+    entry: Pair,
+) -> Result<(), NoMemory>
+    ensures ok { OnOk result (out.new ≡ out.old ++ spelled (Entry key.now state.now entry.at entry.number)) }
+    ensures err { OnErr result (out.new ≡ out.old) }
+{
+    let mut draft = Draft::behind(alloc, out);
+    let put = draft_entry(&mut draft, key, state, entry.at, entry.number);
     draft.end(out, put)
 }
 

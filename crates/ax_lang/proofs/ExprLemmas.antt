@@ -15,8 +15,8 @@ use Rattle.ax_text.specs.declared.vocabulary.Keyword.{Keyword}
 use Rattle.ax_text.specs.declared.vocabulary.Keyword.TheVariants as k
 use Rattle.ax_text.specs.Names.{Word, same_word, keyword_of, is_value_word, is_name, mem}
 use Rattle.ax_text.specs.Exprs.{Expr, Leaf, Join}
-use Rattle.ax_text.specs.Texts.{Emit, Timer, Untimer, Get, Put}
-use Rattle.ax_text.specs.Valid.{has_kind, atom_fits, expr_fits}
+use Rattle.ax_text.specs.Texts.{Let, Emit, Timer, Untimer, Get, GetAt, Has, Empty, Put, PutAt, PutAll, Add, Remove, Clear}
+use Rattle.ax_text.specs.Valid.{has_kind, atom_fits, expr_fits, exprs_fit}
 use Rattle.ax_syntax.specs.Words.{from_one_to_sixteen, unpadded, field_number, sign_of, is_moment, is_operand}
 use Rattle.ax_syntax.specs.Shapes.{goes_on, is_expr, is_exprs, onto_first, parts_of}
 use Rattle.ax_syntax.proofs.PartLemmas.{parts_of_some}
@@ -406,19 +406,44 @@ exprs_more f g n m (x ∷ xs) h i e =
     let p = and_parts (expr_fits f n x) (list_all (expr_fits f n) xs) e in
     and_from (expr_fits g m x) (list_all (expr_fits g m) xs) (expr_more f g n m x h i p.0) (exprs_more f g n m xs h i p.1)
 
+-- a name and a state, and some more
+named_more : (n m name : ℕ) (state : Bool) (x y : Bool) → n ≤ m → ((nat_lt name n && state) && x) ≡ true → (x ≡ true → y ≡ true) → ((nat_lt name m && state) && y) ≡ true
+named_more n m name state x y i e go =
+    let p = and_parts (nat_lt name n && state) x e in
+    let q = and_parts (nat_lt name n) state p.0 in
+    and_from (nat_lt name m && state) y (and_from (nat_lt name m) state (lt_more name n m i q.0) q.1) (go p.1)
+
+second_more : (a x y : Bool) → (a && x) ≡ true → (x ≡ true → y ≡ true) → (a && y) ≡ true
+second_more a x y e go = let p = and_parts a x e in and_from a y p.0 (go p.1)
+
+both_more : (f g n m : ℕ) (x y : Expr) → f ≤ g → n ≤ m → (expr_fits f n x && expr_fits f n y) ≡ true → (expr_fits g m x && expr_fits g m y) ≡ true
+both_more f g n m x y h i e =
+    let p = and_parts (expr_fits f n x) (expr_fits f n y) e in
+    and_from (expr_fits g m x) (expr_fits g m y) (expr_more f g n m x h i p.0) (expr_more f g n m y h i p.1)
+
+few_more : (f g n m : ℕ) (xs : List Expr) → f ≤ g → n ≤ m → exprs_fit f n xs ≡ true → exprs_fit g m xs ≡ true
+few_more f g n m xs h i e = second_more _ (list_all (expr_fits f n) xs) (list_all (expr_fits g m) xs) e (exprs_more f g n m xs h i)
+
 pub statement_more : (f g n m : ℕ) (ks : List Kind) (s : Statement) → f ≤ g → n ≤ m → statement_fits f n ks s ≡ true → statement_fits g m ks s ≡ true
+statement_more f g n m ks (Acts (Let name x)) h i e =
+    let p = and_parts (nat_lt name n) (expr_fits f n x) e in
+    and_from (nat_lt name m) (expr_fits g m x) (lt_more name n m i p.0) (expr_more f g n m x h i p.1)
+statement_more f g n m ks (Asks (GetAt name state place missing)) h i e = named_more n m name (has_kind ks state kind.Map) _ _ i e (both_more f g n m place missing h i)
+statement_more f g n m ks (Asks (Has name state place)) h i e = named_more n m name (has_kind ks state kind.Map) _ _ i e (expr_more f g n m place h i)
+statement_more f g n m ks (Asks (Empty name state)) h i e =
+    let p = and_parts (nat_lt name n) (has_kind ks state kind.Map) e in
+    and_from (nat_lt name m) (has_kind ks state kind.Map) (lt_more name n m i p.0) p.1
+statement_more f g n m ks (Asks (PutAt state place number)) h i e = second_more (has_kind ks state kind.Map) _ _ e (both_more f g n m place number h i)
+statement_more f g n m ks (Asks (PutAll state numbers)) h i e = second_more (has_kind ks state kind.List) _ _ e (few_more f g n m numbers h i)
+statement_more f g n m ks (Asks (Add state number)) h i e = second_more (has_kind ks state kind.List) _ _ e (expr_more f g n m number h i)
+statement_more f g n m ks (Asks (Remove state place)) h i e = second_more (has_kind ks state kind.Map) _ _ e (expr_more f g n m place h i)
+statement_more f g n m ks (Asks (Clear state)) h i e = e
 statement_more f g n m ks (Acts (Emit values)) h i e =
-    let p = and_parts (nat_le 1 (length values) && nat_le (length values) 16) (list_all (expr_fits f n) values) e in
-    and_from (nat_le 1 (length values) && nat_le (length values) 16) (list_all (expr_fits g m) values) p.0 (exprs_more f g n m values h i p.1)
+    few_more f g n m values h i e
 statement_more f g n m ks (Acts (Timer time)) h i e = expr_more f g n m time h i e
 statement_more f g n m ks (Acts (Untimer time)) h i e = expr_more f g n m time h i e
-statement_more f g n m ks (Asks (Get name state missing)) h i e =
-    let p = and_parts (nat_lt name n && has_kind ks state kind.Value) (expr_fits f n missing) e in
-    let q = and_parts (nat_lt name n) (has_kind ks state kind.Value) p.0 in
-    and_from (nat_lt name m && has_kind ks state kind.Value) (expr_fits g m missing) (and_from (nat_lt name m) (has_kind ks state kind.Value) (lt_more name n m i q.0) q.1) (expr_more f g n m missing h i p.1)
-statement_more f g n m ks (Asks (Put state number)) h i e =
-    let p = and_parts (has_kind ks state kind.Value) (expr_fits f n number) e in
-    and_from (has_kind ks state kind.Value) (expr_fits g m number) p.0 (expr_more f g n m number h i p.1)
+statement_more f g n m ks (Asks (Get name state missing)) h i e = named_more n m name (has_kind ks state kind.Value) _ _ i e (expr_more f g n m missing h i)
+statement_more f g n m ks (Asks (Put state number)) h i e = second_more (has_kind ks state kind.Value) _ _ e (expr_more f g n m number h i)
 
 pub statements_more : (f g n m : ℕ) (ks : List Kind) (ss : List Statement) → f ≤ g → n ≤ m → list_all (statement_fits f n ks) ss ≡ true → list_all (statement_fits g m ks) ss ≡ true
 statements_more f g n m ks [] h i e = refl

@@ -1,5 +1,5 @@
 -- Lines without fault keep the tables and the rows sound.
-use Rattle.std.proofs.Common.{◌≡◌, ◌∙◌, ℕ, ◌+◌, ◌≤◌, ◌<◌, List, [], ◌∷◌, ◌++◌, map, length, length-append, refl, sym, ap, subst, arith, max, Bool, true, false, not, ◌&&◌, ◌||◌, nat_le, nat_lt, ◌==◌, Option, Some, None, if◌then◌else◌, is_some}
+use Rattle.std.proofs.Common.{◌≡◌, ◌∙◌, ℕ, zero, suc, ◌+◌, ◌≤◌, ◌<◌, List, [], ◌∷◌, ◌++◌, map, length, length-append, refl, sym, ap, subst, arith, max, Bool, true, false, not, ◌&&◌, ◌||◌, nat_le, nat_lt, ◌==◌, slice_index_or, Option, Some, None, if◌then◌else◌, is_some}
 use Rattle.std.proofs.lemmas.Option.{none-some}
 use Rattle.std.specs.List.{list_all, list_any}
 use Rattle.std.proofs.lemmas.Bool.{and_parts, and_from, leb-false, lt-ltb, eq-eqb, true≢false, false≢true}
@@ -25,7 +25,7 @@ use Rattle.ax_lang.specs.declared.step.Stmt.{Stmt}
 use Rattle.ax_lang.proofs.RowLemmas.{none_added}
 use Rattle.ax_lang.proofs.TokenLemmas.{same_equal}
 use Rattle.ax_lang.proofs.ExprLemmas.{values_of, is_known, place_fits, expr_known, emit_known, all_known, one_expr, statements_more}
-use Rattle.ax_lang.specs.Sound.{WellShaped, Sound}
+use Rattle.ax_lang.specs.Sound.{WellShaped, Sound, is_value_state}
 
 if_none : (b : Bool) (k : ℕ) (r : Option ℕ) → (if b then Some k else r) ≡ None → (b ≡ false) × (r ≡ None)
 if_none true k r h = absurd (none-some k (sym h))
@@ -100,16 +100,18 @@ with_few t w h f s = cases (mem w t.locals) refl where
       let e : length (t.locals ++ w ∷ []) ≡ length t.locals + 1 = length-append t.locals (w ∷ []) in
       omega arith
 
-same_value : (k : Kind) → same_kind k kind.Value ≡ true
-same_value kind.Value = refl
+value_at : (ds : List Decl) (i : ℕ) → list_all is_value_state ds ≡ true → same_kind (slice_index_or (kinds ds) i kind.Value) kind.Value ≡ true
+value_at [] i h = refl
+value_at (d ∷ ds) zero h = (and_parts (is_value_state d) (list_all is_value_state ds) h).0
+value_at (d ∷ ds) (suc i) h = value_at ds i (and_parts (is_value_state d) (list_all is_value_state ds) h).1
 
 -- a state that is declared exists
-declared_fits : (ds : List Decl) (w : Word) → mem w (state_names ds) ≡ true → has_kind (kinds ds) (place_in (state_names ds) w) kind.Value ≡ true
-declared_fits ds w h =
+declared_fits : (ds : List Decl) (w : Word) → list_all is_value_state ds ≡ true → mem w (state_names ds) ≡ true → has_kind (kinds ds) (place_in (state_names ds) w) kind.Value ≡ true
+declared_fits ds w v h =
     let p : place_in (state_names ds) w < length (state_names ds) = place_fits (state_names ds) w h in
     let a : length (state_names ds) ≡ length ds = length-map ds (λ (d : Decl). d.name) in
     let b : length (kinds ds) ≡ length ds = length-map ds (λ (d : Decl). d.kind) in
-    and_from (nat_lt (place_in (state_names ds) w) (length (kinds ds))) _ (lt-ltb (place_in (state_names ds) w) (length (kinds ds)) (omega arith)) (same_value _)
+    and_from (nat_lt (place_in (state_names ds) w) (length (kinds ds))) _ (lt-ltb (place_in (state_names ds) w) (length (kinds ds)) (omega arith)) (value_at ds (place_in (state_names ds) w) v)
 
 -- a word that is a local name stays one
 with_keeps : (w : Word) (ws : List Word) (v : Word) → mem v ws ≡ true → mem v (with_word (Some w) ws) ≡ true
@@ -181,6 +183,7 @@ sound_input t rows n h i f =
       states = h.states;
       named = h.named;
       distinct = h.distinct;
+      values = h.values;
       locals = h.locals;
       inside = h.inside;
       input = λ q. refl;
@@ -203,6 +206,7 @@ sound_state t rows name kind h w f =
       states = (let n : length ds ≡ length t.states + 1 = length-append t.states _ in omega arith);
       named = ap (list_all is_name) names ∙ (list_all-append is_name (state_names t.states) (name ∷ []) ∙ and_from (list_all is_name (state_names t.states)) (list_all is_name (name ∷ [])) h.named (and_from (is_name name) true w refl));
       distinct = ap are_distinct names ∙ distinct_last (state_names t.states) name h.distinct f.once;
+      values = list_all-append is_value_state t.states _ ∙ and_from (list_all is_value_state t.states) true h.values refl;
       locals = h.locals;
       inside = h.inside;
       input = h.input;
@@ -227,6 +231,7 @@ sound_row t rows h f = record {
   states = h.states;
   named = h.named;
   distinct = h.distinct;
+  values = h.values;
   locals = begun_few t h.locals;
   inside = λ q. refl;
   input = λ q. (and_parts (not t.inside) (is_some t.fields) f.stands).1;
@@ -244,6 +249,7 @@ sound_timer t rows h f =
       states = h.states;
       named = h.named;
       distinct = h.distinct;
+      values = h.values;
       locals = begun_few t h.locals;
       inside = λ q. row;
       input = h.input;
@@ -259,6 +265,7 @@ sound_end t rows h = record {
   states = h.states;
   named = h.named;
   distinct = h.distinct;
+  values = h.values;
   locals = h.locals;
   inside = λ q. absurd (false≢true q);
   input = h.input;
@@ -285,6 +292,7 @@ sound_more t rows names n r h inside low few fit =
       states = h.states;
       named = h.named;
       distinct = h.distinct;
+      values = h.values;
       locals = omega arith;
       inside = h.inside;
       input = h.input;
@@ -313,7 +321,7 @@ sound_get t rows name state missing h w f =
     let most = max t.earlier (length locals) in
     let here : place_in locals name < length locals = place_fits locals name (with_mem name t.locals) in
     let low : place_in locals name < max t.earlier (length locals) = omega arith in
-    let there = declared_fits t.states state (not_false (is_state t state) kinds_apart.1) in
+    let there = declared_fits t.states state h.values (not_false (is_state t state) kinds_apart.1) in
     let default = expr_known t locals most missing w (reads_known t (shape.Get name state missing) f.known f.kind) (with_keeps name t.locals) (omega arith) in
     sound_more t rows locals (t.statements + 1) _ h f.stands (with_grows name t.locals) (with_few t name (few_locals t h.locals) room kinds_apart.0)
     (and_from (nat_lt (place_in locals name) most && has_kind (kinds t.states) (place_in (state_names t.states) state) kind.Value) (expr_fits (values_of t) most (tree_in locals missing))
@@ -323,7 +331,7 @@ sound_put : (t : Tables) (rows : HandlerRows) (state : Word) (values : List Word
     → Sound (after (shape.Put state values) t) (joined rows (rows_by (after (shape.Put state values) t) (shape.Put state values)))
 unfolding after row_of may_stand is_built has_wrong_kind
 sound_put t rows state values h w f =
-    let there = declared_fits t.states state (not_false (is_state t state) (or_false (list_any (is_state t) values) (not (is_state t state)) f.kind).1) in
+    let there = declared_fits t.states state h.values (not_false (is_state t state) (or_false (list_any (is_state t) values) (not (is_state t state)) f.kind).1) in
     let most = max t.earlier (length t.locals) in
     let single = one_expr values w (not_true (list_any is_comma values) (and_parts (list_all is_built_word values) (not (list_any is_comma values)) f.built).1) in
     let number = expr_known t t.locals most values single (reads_known t (shape.Put state values) f.known f.kind) (same_names t.locals) (omega arith) in
@@ -449,6 +457,7 @@ sound_start = record {
   states = omega arith;
   named = refl;
   distinct = refl;
+  values = refl;
   locals = omega arith;
   inside = λ q. absurd (false≢true q);
   input = λ q. absurd (false≢true q);

@@ -6,7 +6,7 @@ use Rattle.ax_text.specs.declared.vocabulary.Kind.{Kind}
 use Rattle.ax_text.specs.declared.vocabulary.Kind.TheVariants as kind
 use Rattle.ax_text.specs.Names.{Word}
 use Rattle.ax_text.specs.Valid.{has_kind, expr_fits, names_of}
-use Rattle.ax_text.specs.Texts.{Text, Stop, Act, Ask}
+use Rattle.ax_text.specs.Texts.{Text, Stop}
 use Rattle.ax_text.specs.Programs.{width, width_some, kinds_of}
 use Rattle.ax_state.specs.declared.decls.Decl.{Decl}
 use Rattle.ax_state.specs.Decls.{kinds, state, shown_states}
@@ -15,27 +15,56 @@ use Rattle.ax_lang.specs.declared.step.Step.{Step}
 use Rattle.ax_lang.specs.declared.step.Stmt.{Stmt}
 use Rattle.ax_lang.specs.declared.step.Stmt.TheVariants as code
 use Rattle.ax_lang.specs.Tables.{state_names}
-use Rattle.ax_lang.specs.Rows.{with_row}
-use Rattle.ax_lang.specs.Steps.{shown_statement, text_in, texts_from, stmt_fits, whole_fits, steps_fit}
+use Rattle.ax_lang.specs.Rows.{Statement, Acts, Asks, with_row}
+use Rattle.ax_lang.specs.Steps.{shown_statement, text_in, texts_from, text_at, text_some, stmt_fits, whole_fits, steps_fit}
 
 pub program_kinds : (ds : List Decl) → kinds ds ≡ kinds_of (shown_states ds)
 program_kinds [] = refl
 program_kinds (d ∷ ds) = ap (λ (ks : List Kind). d.kind ∷ ks) (program_kinds ds)
 
-width_low : (t : Text) → width t ≤ 1
-width_low Stop = omega arith
-width_low (Act q t) = width_low t
-width_low (Ask a t) = let h : width t ≤ 1 = width_low t in omega arith
-
-width_some_low : (t : Option Text) → width_some t ≤ 1
-width_some_low None = omega arith
-width_some_low (Some t) = width_low t
-
 -- statements ask one after another
-pub width_small : (row : Text) (timer : Option Text) → max 1 (max (width row) (width_some timer)) ≡ 1
-width_small row timer =
-    let a : width row ≤ 1 = width_low row in
-    let b : width_some timer ≤ 1 = width_some_low timer in
+
+row_low : (r : Statement) (t : Text) → width t ≤ 1 → width (with_row r t) ≤ 1
+row_low (Acts q) t h = h
+row_low (Asks a) t h = omega arith
+
+AreLow : List Text → Type 0
+AreLow xs = (i : ℕ) → width (get_or xs i Stop) ≤ 1
+
+none_low : AreLow []
+unfolding AreLow
+none_low i = omega arith
+
+in_low : (xs : List Text) (p : ℕ) → AreLow xs → width (text_in xs p) ≤ 1
+unfolding AreLow
+in_low xs zero h = omega arith
+in_low xs (suc i) h = h i
+
+low_more : (xs : List Text) (x : Text) → AreLow xs → width x ≤ 1 → AreLow (xs ++ x ∷ [])
+unfolding AreLow
+low_more [] x h w zero = w
+low_more [] x h w (suc i) = omega arith
+low_more (y ∷ ys) x h w zero = h zero
+low_more (y ∷ ys) x h w (suc i) = low_more ys x (λ j. h (suc j)) w i
+
+texts_low : (ss : List Step) (xs : List Text) → AreLow xs → AreLow (texts_from xs ss)
+texts_low [] xs h = h
+texts_low (s ∷ ss) xs h =
+    let x : Text = with_row (shown_statement s.stmt) (text_in xs s.next) in
+    texts_low ss (xs ++ x ∷ []) (low_more xs x h (row_low (shown_statement s.stmt) (text_in xs s.next) (in_low xs s.next h)))
+
+at_low : (ss : List Step) (p : ℕ) → width (text_at ss p) ≤ 1
+unfolding text_at
+at_low ss p = in_low (texts_from [] ss) p (texts_low ss [] none_low)
+
+some_low : (ss : List Step) (p : Option ℕ) → width_some (text_some ss p) ≤ 1
+some_low ss None = omega arith
+some_low ss (Some p) = at_low ss p
+
+pub width_small : (ss : List Step) (row : ℕ) (timer : Option ℕ) → max 1 (max (width (text_at ss row)) (width_some (text_some ss timer))) ≡ 1
+width_small ss row timer =
+    let a : width (text_at ss row) ≤ 1 = at_low ss row in
+    let b : width_some (text_some ss timer) ≤ 1 = some_low ss timer in
     omega arith
 
 pub text_more : (xs ys : List Text) (p : ℕ) → p ≤ length xs → text_in (xs ++ ys) p ≡ text_in xs p

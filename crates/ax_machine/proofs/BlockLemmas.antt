@@ -211,6 +211,8 @@ same_block m states id wm ps qs h = ap (λ (ls : List OutLine). lines_text (fram
 -- a key with neither state nor timer has no line
 empty_lines : (k : Key) (name : List ℕ) (of : Kind) → cell_lines k name (empty_cell of) ≡ []
 empty_lines k name kind.Value = refl
+empty_lines k name kind.List = refl
+empty_lines k name kind.Map = refl
 
 empty_states : (k : Key) (cells : Cells) → ((i : ℕ) → cells i ≡ empty_cell (kind_of (cells i))) → (i : ℕ) (ss : List State) → state_lines k i ss cells ≡ []
 empty_states k cells empty i [] = refl
@@ -222,6 +224,8 @@ no_states states k cells empty = ap (λ (xs : List OutLine). xs ++ []) (empty_st
 
 of_kind : (of : Kind) → empty_cell of ≡ empty_cell (kind_of (empty_cell of))
 of_kind kind.Value = refl
+of_kind kind.List = refl
+of_kind kind.Map = refl
 
 pub fresh_lines : (states : List State) (k : Key) → part_lines states (record { key = k; state = fresh (kinds_of states) }) ≡ []
 fresh_lines states k = no_states states k (untouched (kinds_of states)) (λ i. of_kind (slice_index_or (kinds_of states) i kind.Value))

@@ -6,11 +6,11 @@ use Rattle.std.specs.declared.cmp.Ordering.{Ordering}
 use Rattle.std.specs.BTreeMap.{insert_entry}
 use Rattle.ax_keys.specs.Keys.{key_cmp}
 use Rattle.ax_keys.specs.Groups.{group}
-use Rattle.ax_text.specs.Cells.{Cell, Value as ValueCell, Cells}
+use Rattle.ax_text.specs.Cells.{Cell, Value as ValueCell, Items as ItemsCell, Entries as EntriesCell, Cells}
 use Rattle.ax_text.specs.KeyStates.{KeyState}
 use Rattle.ax_text.specs.Programs.{State}
 use Rattle.ax_machine.specs.Entries.{Key}
-use Rattle.ax_machine.specs.OutLines.{OutLine, Head, Value, Timer, End, lines_text}
+use Rattle.ax_machine.specs.OutLines.{OutLine, Head, Value, Item, Entry as EntryLine, Timer, End, lines_text}
 
 -- a key with what it has
 pub record Part : Type 0 where
@@ -34,8 +34,20 @@ abbrev pub value_lines : Key → List ℕ → Option ℤ → List OutLine
 value_lines k name None = []
 value_lines k name (Some n) = Value k name n ∷ []
 
+-- the lines of a list's items, in order
+abbrev pub item_lines : Key → List ℕ → List ℤ → List OutLine
+item_lines k name [] = []
+item_lines k name (n ∷ ns) = Item k name n ∷ item_lines k name ns
+
+-- the lines of a map's entries, by rising key
+abbrev pub entry_lines : Key → List ℕ → List (ℤ × ℤ) → List OutLine
+entry_lines k name [] = []
+entry_lines k name (e ∷ es) = EntryLine k name e.0 e.1 ∷ entry_lines k name es
+
 abbrev pub cell_lines : Key → List ℕ → Cell → List OutLine
 cell_lines k name (ValueCell number) = value_lines k name number
+cell_lines k name (ItemsCell items) = item_lines k name items
+cell_lines k name (EntriesCell entries) = entry_lines k name entries
 
 -- the lines of a key's states, in order of their declaration, where the first of these has the number i
 abbrev pub state_lines : Key → ℕ → List State → Cells → List OutLine

@@ -2,15 +2,17 @@
 use Rattle.std.proofs.Common.{◌≡◌, ℕ, ℤ, pos, ◌+◌, ◌<◌, ◌≤◌, ◌⊎◌, inl, inr, List, [], ◌∷◌, ◌++◌, Bool, true, false, cond, length, take, drop, map, nat_eq, replicate, slice_set, get_or, Option, Result, Ok, Err, OnOk, OnErr, refl, sym, ap, ap₂, ◌∙◌, subst, arith, append_assoc}
 use Rattle.std.proofs.lemmas.Bool.{eqb-true, eqb-false, cases_lt}
 use Rattle.std.proofs.lemmas.List.{append-nil, take-append-drop, take_at, take_all, get_or-replicate, length-replicate, get_or_past, get_or-set_same, get_or-set_other}
+use Rattle.std.specs.Ordering.{int_eq}
 use Rattle.std.specs.Io.KnownBytes.{Appends}
+use Rattle.ax_base.specs.declared.lists.Pair.{Pair}
 use mathlib.Core.Path.{fun_ext}
 use Rattle.ax_base.proofs.OutsideLemmas.{Appends-none, Appends-more}
 use Rattle.ax_text.specs.declared.vocabulary.TimerOp.{TimerOp}
 use Rattle.ax_text.specs.Functions.{upd}
-use Rattle.ax_text.specs.Exprs.{Facts, Names, value}
-use Rattle.ax_text.specs.Cells.{Cells}
-use Rattle.ax_text.specs.Texts.{Text, Stop, Act, Ask, Emit, Timer, Untimer}
-use Rattle.ax_text.specs.Run.{World, run, begun, act_in, ask_in, times_after}
+use Rattle.ax_text.specs.Exprs.{Expr, Facts, Names, value}
+use Rattle.ax_text.specs.Cells.{Cells, answer_of}
+use Rattle.ax_text.specs.Texts.{Quiet, Let, Emit, Timer, Untimer, Asking, Get, Loop, Text, Stop, Act, Ask, If, Each, Both}
+use Rattle.ax_text.specs.Run.{World, talk_in, with_names, apply, loop_request, turns_of, bind, run_turns, run, begun, act_in, ask_in, times_after}
 use Rattle.ax_time.specs.declared.timer.Timer.{Timer as CodeTimer}
 use Rattle.ax_time.specs.Timers.{times_of, PutsTimes}
 use Rattle.ax_time.proofs.KeptLemmas.{times_same}
@@ -68,6 +70,8 @@ does_more : (f : Facts) (r : Statement) (names : Names) (lines : List (List ℤ)
     → does_statement f r (world names lines ops cells n)
     ≡ world (does_statement f r (before names cells)).talk.names (lines ++ (does_statement f r (before names cells)).talk.lines) (ops ++ (does_statement f r (before names cells)).talk.ops) (does_statement f r (before names cells)).cells (served_after r n)
 unfolding served_after
+does_more f (Acts (Let name e)) names lines ops cells n =
+    ap₂ (λ (l : List (List ℤ)) (o : List TimerOp). world (does_statement f (Acts (Let name e)) (before names cells)).talk.names l o cells n) (sym (append-nil lines)) (sym (append-nil ops))
 does_more f (Acts (Emit values)) names lines ops cells n = ap (λ (o : List TimerOp). world names (lines ++ map (value f names) values ∷ []) o cells n) (sym (append-nil ops))
 does_more f (Acts (Timer time)) names lines ops cells n = ap (λ (l : List (List ℤ)). world names l (ops ++ (does_statement f (Acts (Timer time)) (before names cells)).talk.ops) cells n) (sym (append-nil lines))
 does_more f (Acts (Untimer time)) names lines ops cells n = ap (λ (l : List (List ℤ)). world names l (ops ++ (does_statement f (Acts (Untimer time)) (before names cells)).talk.ops) cells n) (sym (append-nil lines))
@@ -160,16 +164,67 @@ pub set_others : {T E : Type 0} (r : Result T E) (t u : List CodeTimer) (k : Key
 set_others (Ok x) t u k xs p e q a = puts_elsewhere t u k q xs p a
 set_others (Err f) t u k xs p e q a = ap (λ v. times_of v q) e
 
+-- a read leaves the states
+pub get_keeps : (f : Facts) (name state : ℕ) (missing : Expr) (names : Names) (cells : Cells) → (does_statement f (Asks (Get name state missing)) (before names cells)).cells ≡ cells
+get_keeps f name state missing names cells = fun_ext (λ j. at j (nat_eq state j) refl) where
+  at : (j : ℕ) (b : Bool) → nat_eq state j ≡ b → upd cells state (cells state) j ≡ cells j
+  at j true e = rw e (ap cells (eqb-true state j e))
+  at j false e = rw e refl
+
+-- one world has the lines of another, and more
+AddsLines : World → World → Type 0
+AddsLines w v = (more : List (List ℤ)) × (v.talk.lines ≡ w.talk.lines ++ more)
+
+adds_none : (w : World) → AddsLines w w
+unfolding AddsLines
+adds_none w = ([], sym (append-nil w.talk.lines))
+
+adds_then : (u v w : World) → AddsLines u v → AddsLines v w → AddsLines u w
+unfolding AddsLines
+adds_then u v w a b = (a.0 ++ b.0, b.1 ∙ ap (λ xs. xs ++ b.0) a.1 ∙ append_assoc u.talk.lines a.0 b.0)
+
+-- what is done without a line
+adds_behind : (u v w : World) → v.talk.lines ≡ u.talk.lines → AddsLines v w → AddsLines u w
+unfolding AddsLines
+adds_behind u v w e a = (a.0, a.1 ∙ ap (λ xs. xs ++ a.0) e)
+
+adds_act : (f : Facts) (q : Quiet) (w : World) → AddsLines w (act_in f q w)
+unfolding AddsLines
+adds_act f (Let name e) w = ([], sym (append-nil w.talk.lines))
+adds_act f (Emit values) w = (map (value f w.talk.names) values ∷ [], refl)
+adds_act f (Timer time) w = ([], sym (append-nil w.talk.lines))
+adds_act f (Untimer time) w = ([], sym (append-nil w.talk.lines))
+
+adds_chosen : (b : Bool) (one other : World → World) (w : World) → AddsLines w (one w) → AddsLines w (other w) → AddsLines w (cond b other one w)
+adds_chosen true one other w g h = h
+adds_chosen false one other w g h = g
+
+adds_turns : (go : World → World) (l : Loop) (ps : List Pair) (w : World) → ((v : World) → AddsLines v (go v)) → AddsLines w (run_turns go l ps w)
+adds_turns go l [] w goes = adds_none w
+adds_turns go l (p ∷ ps) w goes =
+    let begins : World = talk_in (λ t. with_names (bind l p t.names) t) w in
+    adds_behind w begins (run_turns go l ps (go begins)) refl (adds_then begins (go begins) (run_turns go l ps (go begins)) (goes begins) (adds_turns go l ps (go begins) goes))
+
 -- a run only adds lines
+runs_add : (f : Facts) (t : Text) (w : World) → AddsLines w (run f t w)
+runs_add f Stop w = adds_none w
+runs_add f (Act q t) w = adds_then w (act_in f q w) (run f t (act_in f q w)) (adds_act f q w) (runs_add f t (act_in f q w))
+runs_add f (Ask a t) w = adds_behind w (ask_in f a w) (run f t (ask_in f a w)) refl (runs_add f t (ask_in f a w))
+runs_add f (If e a b t) w =
+    let v : World = cond (int_eq (value f w.talk.names e) (pos 0)) (run f b) (run f a) w in
+    adds_then w v (run f t v) (adds_chosen (int_eq (value f w.talk.names e) (pos 0)) (run f a) (run f b) w (runs_add f a w) (runs_add f b w)) (runs_add f t v)
+runs_add f (Each l body t) w =
+    let read : World = apply (loop_request l) w in
+    let v : World = run_turns (run f body) l (turns_of (answer_of (loop_request l) w.cells)) read in
+    adds_behind w read (run f t v) refl (adds_then read v (run f t v) (adds_turns (run f body) l (turns_of (answer_of (loop_request l) w.cells)) read (λ u. runs_add f body u)) (runs_add f t v))
+runs_add f (Both a b t) w =
+    let one : World = run f a w in
+    let two : World = run f b one in
+    adds_then w one (run f t two) (runs_add f a w) (adds_then one two (run f t two) (runs_add f b one) (runs_add f t two))
+
 pub adds_lines : (f : Facts) (t : Text) (w : World) → (more : List (List ℤ)) × ((run f t w).talk.lines ≡ w.talk.lines ++ more)
-adds_lines f Stop w = ([], sym (append-nil w.talk.lines))
-adds_lines f (Act (Emit values) t) w =
-    let further = adds_lines f t (act_in f (Emit values) w) in
-    let line : List ℤ = map (value f w.talk.names) values in
-    (line ∷ further.0, further.1 ∙ append_assoc w.talk.lines (line ∷ []) further.0)
-adds_lines f (Act (Timer time) t) w = let further = adds_lines f t (act_in f (Timer time) w) in (further.0, further.1)
-adds_lines f (Act (Untimer time) t) w = let further = adds_lines f t (act_in f (Untimer time) w) in (further.0, further.1)
-adds_lines f (Ask a t) w = let further = adds_lines f t (ask_in f a w) in (further.0, further.1)
+unfolding AddsLines
+adds_lines f t w = runs_add f t w
 
 -- a statement failed: the sink took a prefix of what the whole run writes
 pub GoneOn-failed : (f : Facts) (key : Key) (whole : World) (h0 h h' : Option (List ℕ)) (t0 t : List CodeTimer) (r : Statement) (text rest : Text) (names : Names) (cells : Cells)

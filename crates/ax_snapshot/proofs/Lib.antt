@@ -1,3 +1,4 @@
 pub mod PlaceLemmas
 pub mod AddedLemmas
 pub mod SnapLemmas
+pub mod StateLemmas

@@ -1,12 +1,12 @@
 //! A block that is being put together.
 ghost use Rattle.std.specs.Prelude.{◌≡◌, ◌+◌, ◌<◌, ◌++◌, length, IfOk, OnOk};
 ghost use Rattle.ax_machine.specs.Blocks.{value_lines};
-ghost use Rattle.ax_machine.specs.OutLines.{Head, Value, Timer, End, spelled};
+ghost use Rattle.ax_machine.specs.OutLines.{Head, Value, Item, Entry, Timer, End, spelled};
 ghost use Rattle.ax_snapshot.specs.Added.{Adds};
 
 use crate::snapshot::Snapshot;
-use ax_base::{Bytes, NoMemory};
-use ax_input::{put_end, put_head, put_timer, put_value};
+use ax_base::{Bytes, NoMemory, Pair};
+use ax_input::{put_end, put_entry, put_head, put_item, put_timer, put_value};
 use ax_keys::Key;
 use std::alloc::Global;
 use std::marker::Model;
@@ -80,6 +80,40 @@ impl Block {
             Some(number) => self.put_number(alloc, key, state, number),
             None => Ok(()),
         }
+    }
+
+    // Puts the line of an item of a list.
+    #[tactic(auto, using(crate::proofs::AddedLemmas::has_room))]
+    pub(crate) fn put_item(
+        &mut self,
+        alloc: Global,
+        key: &Key,
+        state: &Bytes,
+        number: i64,
+    ) -> Result<(), NoMemory>
+        ensures text { OnOk result (self.new.text ≡ self.old.text ++ spelled (Item key.now state.now number)) }
+        ensures count { OnOk result (self.new.count ≡ self.old.count + 1) }
+    {
+        put_item(alloc, &mut self.text, key, state, number)?;
+        self.count = one_more(self.count, &self.text);
+        Ok(())
+    }
+
+    // Puts the line of an entry of a map.
+    #[tactic(auto, using(crate::proofs::AddedLemmas::has_room))]
+    pub(crate) fn put_entry(
+        &mut self,
+        alloc: Global,
+        key: &Key,
+        state: &Bytes,
+        entry: Pair,
+    ) -> Result<(), NoMemory>
+        ensures text { OnOk result (self.new.text ≡ self.old.text ++ spelled (Entry key.now state.now entry.at entry.number)) }
+        ensures count { OnOk result (self.new.count ≡ self.old.count + 1) }
+    {
+        put_entry(alloc, &mut self.text, key, state, entry)?;
+        self.count = one_more(self.count, &self.text);
+        Ok(())
     }
 
     // Puts the line of a timer.

@@ -1,24 +1,86 @@
 //! Writes snapshot blocks.
-ghost use Rattle.std.specs.Prelude.{◌≡◌, ◌≤◌, length, map, IfOk, OnOk};
+ghost use Rattle.std.specs.Prelude.{◌≡◌, ◌≤◌, ◌<◌, length, map, true, IfOk, OnOk};
 ghost use Rattle.std.specs.List.{All, AllByRecursion};
 ghost use Rattle.std.specs.BTreeMap.{values};
 ghost use Rattle.ax_keys.specs.Groups.{IsMaximum};
 ghost use Rattle.ax_state.specs.Decls.{kinds, shown_states};
-ghost use Rattle.ax_state.specs.KeyCells.{cell_kinds};
-ghost use Rattle.ax_machine.specs.Blocks.{state_lines, timer_lines, part_lines, inner_lines, block_text};
-ghost use Rattle.ax_state.specs.KeyCells.{shown_cells};
-ghost use Rattle.ax_snapshot.specs.Snaps.{shown_part};
+ghost use Rattle.ax_state.specs.Fits.{has_kind};
+ghost use Rattle.ax_state.specs.KeyCells.{shown_cells, cell_kinds};
+ghost use Rattle.ax_machine.specs.Blocks.{item_lines, cell_lines, state_lines, timer_lines, part_lines, inner_lines, block_text};
+ghost use Rattle.ax_snapshot.specs.Snaps.{shown_part, pair_lines};
 ghost use Rattle.ax_snapshot.specs.Places.{shown_places};
 ghost use Rattle.ax_snapshot.specs.Added.{Adds};
 
 use crate::block::Block;
 use crate::place::{Place, place_keys};
 use crate::snapshot::{KeySnap, Snapshot};
-use ax_base::{Bytes, NoMemory};
+use ax_base::{Bytes, NoMemory, Pair};
 use ax_keys::Key;
-use ax_state::{Decl, Decls, KeyCells};
+use ax_state::{Decl, Decls, KeyCells, Kind};
 use std::alloc::Global;
 use std::collections::BTreeMap;
+
+// Puts the lines of a list's items, in order.
+fn put_items(
+    alloc: Global,
+    block: &mut Block,
+    key: &Key,
+    name: &Bytes,
+    items: &[i64],
+) -> Result<(), NoMemory>
+    ensures { OnOk result (Adds block.old block.new (item_lines key.now name.now items.now)) }
+{
+    for number in items {
+        block.put_item(alloc, key, name, *number)?;
+    }
+    Ok(())
+}
+
+// Puts the lines of a map's entries, in order.
+fn put_pairs(
+    alloc: Global,
+    block: &mut Block,
+    key: &Key,
+    name: &Bytes,
+    pairs: &[Pair],
+) -> Result<(), NoMemory>
+    ensures { OnOk result (Adds block.old block.new (pair_lines key.now name.now pairs.now)) }
+{
+    for pair in pairs {
+        block.put_entry(alloc, key, name, *pair)?;
+    }
+    Ok(())
+}
+
+// Puts the lines of one state. Condition: it is of the declared kind.
+fn put_state(
+    alloc: Global,
+    block: &mut Block,
+    key: &Key,
+    decl: &Decl,
+    cells: &KeyCells,
+    state: u8,
+) -> Result<(), NoMemory>
+    requires { has_kind (cell_kinds cells.now) state decl.now.kind ≡ true }
+    ensures { OnOk result (Adds block.old block.new (cell_lines key.now decl.now.name (shown_cells cells.now state))) }
+{
+    match decl.kind {
+        Kind::Value => block.put_value(alloc, key, &decl.name, cells.value(state)),
+        Kind::List => put_items(alloc, block, key, &decl.name, cells.items(state)),
+        Kind::Map => {
+            let pairs = cells.pairs(alloc, state)?;
+            put_pairs(alloc, block, key, &decl.name, pairs.as_slice())
+        }
+    }
+}
+
+// The number of the state at this place of the declarations.
+fn state_at(place: usize) -> u8
+    requires { place < 256 }
+    ensures { result ≡ place }
+{
+    place as u8
+}
 
 // Puts the lines of a key's states, in order of their declaration.
 fn put_states(
@@ -33,7 +95,7 @@ fn put_states(
     ensures { OnOk result (Adds block.old block.new (state_lines key.now 0 (shown_states decls.now) (shown_cells cells.now))) }
 {
     for (state, decl) in decls.iter().enumerate() {
-        block.put_value(alloc, key, &decl.name, cells.value(state as u8))?;
+        put_state(alloc, block, key, decl, cells, state_at(state))?;
     }
     Ok(())
 }

@@ -1,5 +1,5 @@
 -- The states of one key, as a list of cells and as a function.
-use Rattle.std.proofs.Common.{◌≡◌, ℕ, cond, subst, ◌<◌, ◌≤◌, ◌⊎◌, inl, inr, List, [], ◌∷◌, map, length, Bool, true, false, nat_eq, nat_lt, None, All, get_or, refl, sym, ap, ap₂, ◌∙◌, arith, slice_set}
+use Rattle.std.proofs.Common.{◌≡◌, ℕ, cond, subst, ◌<◌, ◌≤◌, ◌⊎◌, inl, inr, List, [], ◌∷◌, map, length, Bool, true, false, nat_eq, nat_lt, None, All, get_or, refl, sym, ap, ap₂, ◌∙◌, arith, slice_set, zero, suc}
 use Rattle.std.proofs.lemmas.Bool.{eqb-true, eqb-false, ltb-true, and_parts, cases_lt}
 use Rattle.std.proofs.lemmas.List.{get_or-set_same, get_or-set_other, length-map, map-set}
 use Rattle.std.proofs.lemmas.List as lemma
@@ -11,13 +11,13 @@ use Rattle.ax_text.specs.declared.vocabulary.Kind.{Kind}
 use Rattle.ax_text.specs.declared.vocabulary.Kind.TheVariants as kind
 use Rattle.ax_text.specs.declared.vocabulary.Request.{Request}
 use Rattle.ax_text.specs.Functions.{upd}
-use Rattle.ax_text.specs.Cells.{Cell, Value, kind_of, empty_cell, cells_after}
+use Rattle.ax_text.specs.Cells.{Cell, Value, kind_of, empty_cell, cells_after, cell_after, state_of, serves}
 use Rattle.ax_text.specs.Programs.{untouched, kinds_of}
 use Rattle.ax_state.specs.declared.decls.Decl.{Decl}
 use Rattle.ax_state.specs.declared.cells.Held.{Held}
 use Rattle.ax_state.specs.Held.{shown_cell}
 use Rattle.ax_state.specs.Decls.{shown_states, kinds}
-use Rattle.ax_state.specs.Fits.{same_kind, has_kind}
+use Rattle.ax_state.specs.Fits.{same_kind, has_kind, fits_in}
 use Rattle.ax_state.specs.KeyCells.{shown_cells, cell_kinds, IsEmptyCell}
 
 -- what a request leaves, as one function where it agrees at each state
@@ -35,9 +35,13 @@ kinds_of-states (d ∷ ds) = ap (λ ks. d.kind ∷ ks) (kinds_of-states ds)
 
 kind_of-empty : (k : Kind) → kind_of (empty_cell k) ≡ k
 kind_of-empty kind.Value = refl
+kind_of-empty kind.List = refl
+kind_of-empty kind.Map = refl
 
 is_empty : (k : Kind) → IsEmptyCell (empty_cell k)
 is_empty kind.Value = refl
+is_empty kind.List = refl
+is_empty kind.Map = refl
 
 pub cell_kinds-empty : (ks : List Kind) → cell_kinds (map empty_cell ks) ≡ ks
 cell_kinds-empty [] = refl
@@ -56,10 +60,15 @@ all_untouched cells a s = is_empty_at (cases_lt s (length cells)) ∙ ap empty_c
   is_empty_at (inl h) = a s (Value None) h
   is_empty_at (inr h) = subst IsEmptyCell (sym (lemma.get_or_past cells s (Value None) h)) refl
 
--- a state of some number and kind is there
-pub is_there : (cells : List Cell) (i : ℕ) (k : Kind) → has_kind (cell_kinds cells) i k ≡ true → i < length cells
-is_there cells i k h =
-    omega (arith, length-map cells kind_of, ltb-true i (length (cell_kinds cells)) (and_parts (nat_lt i (length (cell_kinds cells))) (same_kind (get_or (cell_kinds cells) i kind.Value) k) h).0)
+-- a state that serves a request is there, and holds what serves it
+pub is_there : (cells : List Cell) (r : Request) → fits_in (cell_kinds cells) r ≡ true → state_of r < length cells
+is_there cells r h =
+    omega (arith, length-map cells kind_of, ltb-true (state_of r) (length (cell_kinds cells)) (and_parts (nat_lt (state_of r) (length (cell_kinds cells))) (serves (get_or (cell_kinds cells) (state_of r) kind.Value) r) h).0)
+
+pub serves_it : (cells : List Cell) (r : Request) → fits_in (cell_kinds cells) r ≡ true → serves (kind_of (get_or cells (state_of r) (Value None))) r ≡ true
+serves_it cells r h =
+    ap (λ (k : Kind). serves k r) (sym (get_or-map kind_of cells (state_of r) (Value None)))
+    ∙ (and_parts (nat_lt (state_of r) (length (cell_kinds cells))) (serves (get_or (cell_kinds cells) (state_of r) kind.Value) r) h).1
 
 -- another cell at one place
 pub shown_cells-set : (cells : List Cell) (i : ℕ) (c : Cell) → i < length cells → (s : ℕ) → shown_cells (slice_set cells i c) s ≡ upd (shown_cells cells) i c s
@@ -69,12 +78,8 @@ shown_cells-set cells i c h s = by_place (nat_eq i s) refl where
   by_place false e = get_or-set_other cells i s c (Value None) (λ f. eqb-false i s e (sym f))
 
 -- a cell of the same kind leaves the kinds
-pub cell_kinds-set : (cells : List Cell) (i : ℕ) (c : Cell) → has_kind (cell_kinds cells) i (kind_of c) ≡ true → cell_kinds (slice_set cells i c) ≡ cell_kinds cells
-cell_kinds-set cells i c h =
-    let there = and_parts (nat_lt i (length (cell_kinds cells))) (same_kind (get_or (cell_kinds cells) i kind.Value) (kind_of c)) h in
-    map-set_same kind_of cells i c (Value None) (sym (same_is (get_or (cell_kinds cells) i kind.Value) (kind_of c) there.1) ∙ get_or-map kind_of cells i (Value None)) where
-      same_is : (j k : Kind) → same_kind j k ≡ true → j ≡ k
-      same_is kind.Value kind.Value h = refl
+pub cell_kinds-set : (cells : List Cell) (i : ℕ) (c : Cell) → kind_of c ≡ kind_of (get_or cells i (Value None)) → cell_kinds (slice_set cells i c) ≡ cell_kinds cells
+cell_kinds-set cells i c h = map-set_same kind_of cells i c (Value None) h
 
 -- what the code holds, with another state at one place
 pub set_held : (hs : List Held) (cells : List Cell) (i : ℕ) (h : Held) → map shown_cell hs ≡ cells → map shown_cell (slice_set hs i h) ≡ slice_set cells i (shown_cell h)
@@ -88,3 +93,30 @@ pub held_empty : (hs : List Held) (cells : List Cell) → map shown_cell hs ≡ 
 held_empty hs cells e a k d h =
     let all : All IsEmptyCell (map shown_cell hs) = subst (All IsEmptyCell) (sym e) a in
     subst IsEmptyCell (lemma.get_or-map shown_cell hs k d (Value None) h) (all k (Value None) (omega (arith, length-map hs shown_cell)))
+
+-- one state is served
+pub served_cells : (hs : List Held) (cells : List Cell) (r : Request) (h : Held) → map shown_cell hs ≡ cells → fits_in (cell_kinds cells) r ≡ true → shown_cell h ≡ cell_after r (shown_cells cells (state_of r))
+    → (s : ℕ) → shown_cells (map shown_cell (slice_set hs (state_of r) h)) s ≡ cells_after r (shown_cells cells) s
+served_cells hs cells r h e f a s =
+    ap (λ (xs : List Cell). shown_cells xs s) (set_held hs cells (state_of r) h e)
+    ∙ shown_cells-set cells (state_of r) (shown_cell h) (is_there cells r f) s
+    ∙ ap (λ (c : Cell). upd (shown_cells cells) (state_of r) c s) a
+
+pub served_kinds : (hs : List Held) (cells : List Cell) (i : ℕ) (h : Held) → map shown_cell hs ≡ cells → kind_of (shown_cell h) ≡ kind_of (shown_cells cells i)
+    → cell_kinds (map shown_cell (slice_set hs i h)) ≡ cell_kinds cells
+served_kinds hs cells i h e a = ap cell_kinds (set_held hs cells i h e) ∙ cell_kinds-set cells i (shown_cell h) a
+
+-- what is set again is as before
+set_again : (cells : List Cell) (i : ℕ) (c d : Cell) → i < length cells → c ≡ get_or cells i d → slice_set cells i c ≡ cells
+set_again [] i c d h e = absurd (omega arith)
+set_again (x ∷ xs) zero c d h e = ap (λ (y : Cell). y ∷ xs) e
+set_again (x ∷ xs) (suc i) c d h e = ap (λ (ys : List Cell). x ∷ ys) (set_again xs i c d (omega arith) e)
+
+pub kept_cells : (hs : List Held) (cells : List Cell) (r : Request) (h : Held) → map shown_cell hs ≡ cells → fits_in (cell_kinds cells) r ≡ true → shown_cell h ≡ shown_cells cells (state_of r)
+    → map shown_cell (slice_set hs (state_of r) h) ≡ cells
+kept_cells hs cells r h e f a = set_held hs cells (state_of r) h e ∙ set_again cells (state_of r) (shown_cell h) (Value None) (is_there cells r f) a
+
+pub held_at : (hs : List Held) (cells : List Cell) (i : ℕ) (d : Held) → map shown_cell hs ≡ cells → i < length cells → shown_cell (get_or hs i d) ≡ shown_cells cells i
+held_at hs cells i d e h =
+    let low : i < length hs = omega (arith, length-map hs shown_cell, ap (λ (xs : List Cell). length xs) e) in
+    sym (lemma.get_or-map shown_cell hs i d (Value None) low) ∙ ap (λ (xs : List Cell). get_or xs i (Value None)) e

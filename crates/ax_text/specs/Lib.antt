@@ -9,3 +9,10 @@ pub mod KeyStates
 pub mod Run
 pub mod Jobs
 pub mod Valid
+pub mod Prints
+pub mod Controls
+pub mod Footprints
+pub mod Futures
+pub mod Rows
+pub mod Widths
+pub mod Sound

@@ -1,10 +1,10 @@
 -- What a program says.
-use Rattle.std.specs.Prelude.{ℕ, ◌≤◌, max, List, [], ◌∷◌, map, Bool, true, false, Option, Some, None, slice_get}
+use Rattle.std.specs.Prelude.{ℕ, max, ◌+◌, List, map, Option, Some, None}
 use Rattle.std.specs.List.{slice_index_or}
 use Rattle.ax_text.specs.declared.vocabulary.Kind.{Kind}
 use Rattle.ax_text.specs.declared.vocabulary.Kind.TheVariants as kind
-use Rattle.ax_text.specs.Cells.{Cell, Cells, empty_cell}
-use Rattle.ax_text.specs.Texts.{Text, Stop, Act, Ask}
+use Rattle.ax_text.specs.Cells.{Cells, empty_cell}
+use Rattle.ax_text.specs.Texts.{Text, Stop, Act, Ask, If, Each, Both}
 
 -- a declared state
 pub record State : Type 0 where
@@ -38,6 +38,9 @@ abbrev pub width : Text → ℕ
 width Stop = 0
 width (Act q t) = width t
 width (Ask a t) = max 1 (width t)
+width (If e a b t) = max (max (width a) (width b)) (width t)
+width (Each l body t) = max (max 1 (width body)) (width t)
+width (Both a b t) = max (width a + width b) (width t)
 
 abbrev pub width_some : Option Text → ℕ
 width_some None = 0

@@ -1,8 +1,8 @@
 //! The plain types that definitions and code share.
 ghost use Rattle.std.specs.Prelude.{◌≡◌};
-ghost use Rattle.ax_text.specs.Cells.{state_of, kind_for};
+ghost use Rattle.ax_text.specs.Cells.{state_of, serves};
 
-use ax_base::{Duplicate, NoMemory};
+use ax_base::{Duplicate, NoMemory, Nums, Pairs};
 use std::alloc::Global;
 
 /// A reserved word.
@@ -47,6 +47,10 @@ pub enum Keyword {
 pub enum Kind {
     /// One number, or none.
     Value,
+    /// Numbers in order.
+    List,
+    /// A number for each of some keys.
+    Map,
 }
 
 /// What stands between two operands of an expression.
@@ -86,6 +90,26 @@ pub enum Request {
     ValueGet { state: u8 },
     /// The number of a value is set, whatever was there before: `Done`.
     ValuePut { state: u8, number: i64 },
+    /// The items of a list are asked for, in order: `Items`. Nothing changes.
+    ListGet { state: u8 },
+    /// A number goes last into a list: `Done`.
+    ListAdd { state: u8, number: i64 },
+    /// A list is now these items, whatever was there before: `Done`.
+    ListPut { state: u8, items: Nums },
+    /// The number of a map at the key `at` is asked for: `Found`, or `Missing` where it has no such entry. Nothing changes.
+    MapGet { state: u8, at: i64 },
+    /// The number of a map at the key `at` is set, whatever was there before: `Done`.
+    MapPut { state: u8, at: i64, number: i64 },
+    /// The entry of a map at the key `at` is taken out, if there is one: `Done`.
+    MapRemove { state: u8, at: i64 },
+    /// Whether a map has an entry at the key `at`: `Flag`. Nothing changes.
+    MapHas { state: u8, at: i64 },
+    /// Whether a map has no entry: `Flag`. Nothing changes.
+    MapEmpty { state: u8 },
+    /// The entries of a map are asked for, by rising key: `Pairs`. Nothing changes.
+    MapEntries { state: u8 },
+    /// A state of any kind becomes empty: `Done`.
+    Clear { state: u8 },
 }
 
 impl Request {
@@ -94,31 +118,74 @@ impl Request {
         ensures { result ≡ state_of self.now }
     {
         match self {
-            Request::ValueGet { state } => *state,
-            Request::ValuePut { state, .. } => *state,
+            Request::ValueGet { state }
+            | Request::ValuePut { state, .. }
+            | Request::ListGet { state }
+            | Request::ListAdd { state, .. }
+            | Request::ListPut { state, .. }
+            | Request::MapGet { state, .. }
+            | Request::MapPut { state, .. }
+            | Request::MapRemove { state, .. }
+            | Request::MapHas { state, .. }
+            | Request::MapEmpty { state }
+            | Request::MapEntries { state }
+            | Request::Clear { state } => *state,
         }
     }
 
-    /// The kind of state that has such a request.
-    pub fn kind(&self) -> Kind
-        ensures { result ≡ kind_for self.now }
+    /// Whether a state of this kind serves it.
+    pub fn fits(&self, kind: Kind) -> bool
+        ensures { result ≡ serves kind self.now }
     {
         match self {
-            Request::ValueGet { .. } => Kind::Value,
-            Request::ValuePut { .. } => Kind::Value,
+            Request::ValueGet { .. } | Request::ValuePut { .. } => matches!(kind, Kind::Value),
+            Request::ListGet { .. } | Request::ListAdd { .. } | Request::ListPut { .. } => {
+                matches!(kind, Kind::List)
+            }
+            Request::Clear { .. } => true,
+            _ => matches!(kind, Kind::Map),
         }
     }
 }
 
 impl Duplicate for Request {
-    fn copy(&self, _alloc: Global) -> Result<Request, NoMemory> {
-        match self {
-            Request::ValueGet { state } => Ok(Request::ValueGet { state: *state }),
-            Request::ValuePut { state, number } => Ok(Request::ValuePut {
+    fn copy(&self, alloc: Global) -> Result<Request, NoMemory> {
+        Ok(match self {
+            Request::ValueGet { state } => Request::ValueGet { state: *state },
+            Request::ValuePut { state, number } => Request::ValuePut {
                 state: *state,
                 number: *number,
-            }),
-        }
+            },
+            Request::ListGet { state } => Request::ListGet { state: *state },
+            Request::ListAdd { state, number } => Request::ListAdd {
+                state: *state,
+                number: *number,
+            },
+            Request::ListPut { state, items } => Request::ListPut {
+                state: *state,
+                items: items.copy(alloc)?,
+            },
+            Request::MapGet { state, at } => Request::MapGet {
+                state: *state,
+                at: *at,
+            },
+            Request::MapPut { state, at, number } => Request::MapPut {
+                state: *state,
+                at: *at,
+                number: *number,
+            },
+            Request::MapRemove { state, at } => Request::MapRemove {
+                state: *state,
+                at: *at,
+            },
+            Request::MapHas { state, at } => Request::MapHas {
+                state: *state,
+                at: *at,
+            },
+            Request::MapEmpty { state } => Request::MapEmpty { state: *state },
+            Request::MapEntries { state } => Request::MapEntries { state: *state },
+            Request::Clear { state } => Request::Clear { state: *state },
+        })
     }
 }
 
@@ -127,19 +194,32 @@ impl Duplicate for Request {
 pub enum Answer {
     /// What was asked is done; there is nothing to tell.
     Done,
-    /// The number that the state holds.
+    /// The number that the state holds there.
     Found { number: i64 },
     /// The state holds nothing there.
     Missing,
+    /// The items of a list, in order.
+    Items { items: Nums },
+    /// The entries of a map, by rising key.
+    Pairs { pairs: Pairs },
+    /// Yes or no.
+    Flag { yes: bool },
 }
 
 impl Duplicate for Answer {
-    fn copy(&self, _alloc: Global) -> Result<Answer, NoMemory> {
-        match self {
-            Answer::Done => Ok(Answer::Done),
-            Answer::Found { number } => Ok(Answer::Found { number: *number }),
-            Answer::Missing => Ok(Answer::Missing),
-        }
+    fn copy(&self, alloc: Global) -> Result<Answer, NoMemory> {
+        Ok(match self {
+            Answer::Done => Answer::Done,
+            Answer::Found { number } => Answer::Found { number: *number },
+            Answer::Missing => Answer::Missing,
+            Answer::Items { items } => Answer::Items {
+                items: items.copy(alloc)?,
+            },
+            Answer::Pairs { pairs } => Answer::Pairs {
+                pairs: pairs.copy(alloc)?,
+            },
+            Answer::Flag { yes } => Answer::Flag { yes: *yes },
+        })
     }
 }
 

@@ -1,0 +1,178 @@
+-- The lines of a handler in their order, the text that they make, and how wide it is.
+use Rattle.std.specs.Prelude.{◌≡◌, ℕ, ◌+◌, max, List, [], ◌∷◌, map, Bool, true, false, not, ◌&&◌}
+use Rattle.ax_text.specs.Exprs.{Expr}
+use Rattle.ax_text.specs.Texts.{Quiet, Asking, Loop, Text, Stop, Act, Ask, If, Each, Both}
+use Rattle.ax_text.specs.Prints.{Print, quiet_print, asking_print, loop_print, test_print, is_apart, is_accepted}
+
+pub data Row : Type 0 where
+  ActRow : (quiet : Quiet) → Row
+  AskRow : (asking : Asking) → Row
+  IfRow : (test : Expr) → Row
+  EachRow : (loop : Loop) → Row
+  BothRow : Row
+  -- `else`, or `with`
+  SecondRow : Row
+  EndRow : Row
+
+-- what is left of a block's part, and the block's second part
+pub record Level : Type 0 where
+  pub text : Text
+  pub second : Text
+
+abbrev pub level : Text → Text → Level
+level text second = record { text = text; second = second }
+
+abbrev pub top : List Level → Level
+top [] = level Stop Stop
+top (l ∷ ls) = l
+
+abbrev pub below : List Level → List Level
+below [] = []
+below (l ∷ ls) = ls
+
+abbrev pub with_text : Text → List Level → List Level
+with_text t ls = level t (top ls).second ∷ below ls
+
+abbrev pub before : Row → List Level → List Level
+before (ActRow q) ls = with_text (Act q (top ls).text) ls
+before (AskRow a) ls = with_text (Ask a (top ls).text) ls
+before (IfRow e) ls = with_text (If e (top ls).text (top ls).second (top (below ls)).text) (below ls)
+before (EachRow l) ls = with_text (Each l (top ls).text (top (below ls)).text) (below ls)
+before BothRow ls = with_text (Both (top ls).text (top ls).second (top (below ls)).text) (below ls)
+before SecondRow ls = level Stop (top ls).text ∷ below ls
+before EndRow ls = level Stop Stop ∷ ls
+
+abbrev pub levels_of : List Row → List Level
+levels_of [] = []
+levels_of (r ∷ rs) = before r (levels_of rs)
+
+unfoldable pub text_of : List Row → Text
+text_of rows = (top (levels_of rows)).text
+
+-- which part of which block is open
+pub data Part : Type 0 where
+  Yes' : Part
+  No' : Part
+  Body : Part
+  One : Part
+  Two : Part
+
+-- the open blocks, the innermost first: how wide the first part was, and how wide this part is so far
+pub record Wide : Type 0 where
+  pub part : Part
+  pub first : ℕ
+  pub now : ℕ
+
+abbrev pub wide : Part → ℕ → ℕ → Wide
+wide p first now = record { part = p; first = first; now = now }
+
+abbrev pub raised : ℕ → List Wide → List Wide
+raised n [] = []
+raised n (b ∷ bs) = wide b.part b.first (max b.now n) ∷ bs
+
+abbrev pub other : Part → Part
+other Yes' = No'
+other One = Two
+other p = p
+
+abbrev pub block_width : Part → ℕ → ℕ → ℕ
+block_width Yes' first now = now
+block_width One first now = now
+block_width Two first now = first + now
+block_width p first now = max first now
+
+abbrev pub closed : List Wide → List Wide
+closed [] = []
+closed (b ∷ []) = b ∷ []
+closed (b ∷ c ∷ bs) = raised (block_width b.part b.first b.now) (c ∷ bs)
+
+abbrev pub turned : List Wide → List Wide
+turned [] = []
+turned (b ∷ bs) = wide (other b.part) b.now 0 ∷ bs
+
+abbrev pub widened : Row → List Wide → List Wide
+widened (ActRow q) bs = bs
+widened (AskRow a) bs = raised 1 bs
+widened (IfRow e) bs = wide Yes' 0 0 ∷ bs
+widened (EachRow l) bs = wide Body 0 1 ∷ bs
+widened BothRow bs = wide One 0 0 ∷ bs
+widened SecondRow bs = turned bs
+widened EndRow bs = closed bs
+
+abbrev pub widened_by : List Row → List Wide → List Wide
+widened_by [] bs = bs
+widened_by (r ∷ rs) bs = widened_by rs (widened r bs)
+
+-- `else` and `with` stand only where a block's second part is to come
+abbrev pub has_second : Part → Bool
+has_second Yes' = true
+has_second One = true
+has_second p = false
+
+abbrev pub can_turn : List Wide → Bool
+can_turn [] = false
+can_turn (b ∷ []) = false
+can_turn (b ∷ c ∷ bs) = has_second b.part
+
+-- an `end` closes a block, but the last one
+abbrev pub can_close : List Wide → Bool
+can_close [] = false
+can_close (b ∷ []) = false
+can_close (b ∷ c ∷ bs) = true
+
+abbrev pub may_follow : Row → List Wide → Bool
+may_follow r [] = false
+may_follow SecondRow (b ∷ bs) = can_turn (b ∷ bs)
+may_follow EndRow (b ∷ bs) = can_close (b ∷ bs)
+may_follow r (b ∷ bs) = true
+
+abbrev pub follow : List Row → List Wide → Bool
+follow [] bs = not (can_close bs)
+follow (r ∷ rs) bs = may_follow r bs && follow rs (widened r bs)
+
+abbrev pub now_of : List Wide → ℕ
+now_of [] = 0
+now_of (b ∷ bs) = b.now
+
+-- what the open blocks have done: their first part, and this part so far
+pub record Lines : Type 0 where
+  pub part : Part
+  pub first : List Print
+  pub this : List Print
+
+abbrev pub part_ok : Part → Print → List Print → Bool
+part_ok One p first = not p.loud
+part_ok Two p first = not p.loud && is_apart first p
+part_ok _ p first = true
+
+-- a line inside these blocks: it is silent in an arm, and in a second arm it doesn't clash with the first
+abbrev pub row_ok : Print → List Lines → Bool
+row_ok p [] = true
+row_ok p (b ∷ bs) = part_ok b.part p b.first && row_ok p bs
+
+abbrev pub note : Print → Lines → Lines
+note p b = record { part = b.part; first = b.first; this = p ∷ b.this }
+
+abbrev pub new : Part → Lines
+new a = record { part = a; first = []; this = [] }
+
+abbrev pub turned_lines : List Lines → List Lines
+turned_lines [] = []
+turned_lines (b ∷ bs) = record { part = other b.part; first = b.this; this = [] } ∷ bs
+
+abbrev pub closed_lines : List Lines → List Lines
+closed_lines [] = []
+closed_lines (b ∷ bs) = bs
+
+abbrev pub all_ok : List Row → List Lines → Bool
+all_ok [] bs = true
+all_ok (ActRow q ∷ rs) bs = row_ok (quiet_print q) bs && all_ok rs (map (note (quiet_print q)) bs)
+all_ok (AskRow a ∷ rs) bs = row_ok (asking_print a) bs && all_ok rs (map (note (asking_print a)) bs)
+all_ok (IfRow e ∷ rs) bs = row_ok (test_print e) bs && all_ok rs (new Yes' ∷ map (note (test_print e)) bs)
+all_ok (EachRow l ∷ rs) bs = row_ok (loop_print l) bs && all_ok rs (new Body ∷ map (note (loop_print l)) bs)
+all_ok (BothRow ∷ rs) bs = all_ok rs (new One ∷ bs)
+all_ok (SecondRow ∷ rs) bs = all_ok rs (turned_lines bs)
+all_ok (EndRow ∷ rs) bs = all_ok rs (closed_lines bs)
+
+abbrev pub IsAccepted : List Row → Type 0
+IsAccepted rows = all_ok rows [] ≡ true → is_accepted (text_of rows) ≡ true

@@ -1,0 +1,48 @@
+//! Laws of handlers. Each is what an empty function ensures.
+ghost use Rattle.std.specs.Prelude.{◌≡◌, ℕ, List, [], ◌∷◌, true};
+ghost use Rattle.ax_text.specs.declared.vocabulary.Answer.{Answer as AnyAnswer};
+ghost use Rattle.ax_text.specs.Exprs.{Facts};
+ghost use Rattle.ax_text.specs.Cells.{Cells};
+ghost use Rattle.ax_text.specs.Texts.{Text};
+ghost use Rattle.ax_text.specs.Programs.{width};
+ghost use Rattle.ax_text.specs.Run.{Talk};
+ghost use Rattle.ax_text.specs.Controls.{Control, Cursor, Event};
+ghost use Rattle.ax_text.specs.Futures.{ComesToRun, EndsAsRun, StaysWithin, AsksAtBegin, AsksAtGive};
+ghost use Rattle.ax_text.specs.Rows.{Row, IsAccepted, follow, widened_by, now_of, text_of, wide, Body};
+
+/// Whatever the order in which the requests of a handler are served and their answers given, what was done and what is still to be done come together to what its run does.
+#[tactic(auto, using(crate::proofs::Going::comes_to_run))]
+pub fn futures_come_to_the_run()
+    ensures { (f : Facts) (t : Text) (cells : Cells) (events : List Event) → ComesToRun f t cells events }
+{}
+
+/// Where a handler is done, what it leaves is what its run leaves.
+#[tactic(auto, using(crate::proofs::Going::ends_as_run))]
+pub fn futures_end_as_the_run()
+    ensures { (f : Facts) (t : Text) (cells : Cells) (events : List Event) → EndsAsRun f t cells events }
+{}
+
+/// At most as many requests wait at once as the text is wide.
+#[tactic(auto, using(crate::proofs::Wide::stays_within))]
+pub fn waits_within_the_width()
+    ensures { (f : Facts) (t : Text) (cells : Cells) (events : List Event) → StaysWithin f t cells events }
+{}
+
+/// What a callback asks is what waits behind it and did not before.
+#[tactic(auto, using(crate::proofs::Asked::begin_asked, crate::proofs::Asked::give_asked))]
+pub fn asks_are_what_waits()
+    ensures begin { (f : Facts) (k : Cursor) (used : List ℕ) (t : Talk) → AsksAtBegin f k used t }
+    ensures give { (f : Facts) (c : Control) (s : ℕ) (a : AnyAnswer) (t : Talk) → AsksAtGive f c s a t }
+{}
+
+/// Lines of a handler that pass the tests of arms one after another make a text whose arms are silent and apart.
+#[tactic(auto, using(crate::proofs::RowsAccepted::accepted))]
+pub fn tested_lines_are_accepted()
+    ensures { (rows : List Row) → IsAccepted rows }
+{}
+
+/// What is counted line by line is the width of the text.
+#[tactic(auto, using(crate::proofs::RowWidths::counted_width))]
+pub fn counted_width_is_the_width()
+    ensures { (rows : List Row) → follow rows (wide Body 0 0 ∷ []) ≡ true → now_of (widened_by rows (wide Body 0 0 ∷ [])) ≡ width (text_of rows) }
+{}
