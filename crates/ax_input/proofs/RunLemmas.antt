@@ -1,5 +1,5 @@
 -- What a run of a valid program leaves has 64 bits.
-use Rattle.std.proofs.Common.{◌≡◌, refl, sym, subst, ◌∙◌, ℕ, ℤ, Bool, true, false, ◌&&◌, nat_le, nat_eq, cond, if◌then◌else◌, List, [], ◌∷◌, ◌++◌, length, map, None, Some, Ordering, Less, Equal, Greater}
+use Rattle.std.proofs.Common.{pos, ◌≡◌, refl, sym, subst, ◌∙◌, ℕ, ℤ, Bool, true, false, ◌&&◌, nat_le, nat_eq, cond, if◌then◌else◌, List, [], ◌∷◌, ◌++◌, length, map, None, Some, Ordering, Less, Equal, Greater}
 use Rattle.std.specs.List.{list_all, filter}
 use Rattle.std.specs.Ordering.{int_cmp, int_eq, match_ordering}
 use Rattle.std.specs.Prelude.{not}
