@@ -14,7 +14,7 @@ use Rattle.ax_text.specs.Valid.{names_of}
 use Rattle.ax_machine.specs.Entries.{Key, Entry, Watermark, Block, entry_text, text_of}
 use Rattle.ax_machine.specs.Entries as entry
 use Rattle.ax_machine.specs.OutLines.{OutLine, Out, Mark, Head, Value, Item, Entry as EntryLine, Timer, End, line_of, spelled, lines_text}
-use Rattle.ax_machine.specs.Blocks.{Part, block_cmp, placed_from, placed, value_lines, item_lines, entry_lines, cell_lines, state_lines, timer_lines, part_lines, inner_lines, framed, block_text}
+use Rattle.ax_machine.specs.Blocks.{Part, block_cmp, placed_from, placed, item_lines, entry_lines, cell_lines, state_lines, timer_lines, part_lines, inner_lines, framed, block_text}
 use Rattle.ax_input.specs.OutLines.{is_place, is_line}
 use Rattle.ax_input.specs.Laws.{is_of_key, IsBlock, IsPlain}
 use Rattle.ax_input.proofs.RunLemmas.{entry_good, cell_good, GoodState}

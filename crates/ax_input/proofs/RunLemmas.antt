@@ -1,5 +1,5 @@
 -- What a run of a valid program leaves has 64 bits.
-use Rattle.std.proofs.Common.{pos, ◌≡◌, refl, sym, subst, ◌∙◌, ℕ, ℤ, Bool, true, false, ◌&&◌, nat_le, nat_eq, cond, if◌then◌else◌, List, [], ◌∷◌, ◌++◌, length, map, None, Some, Ordering, Less, Equal, Greater}
+use Rattle.std.proofs.Common.{◌≡◌, refl, sym, subst, ◌∙◌, ℕ, ℤ, pos, Bool, true, false, ◌&&◌, nat_le, nat_eq, cond, if◌then◌else◌, List, [], ◌∷◌, ◌++◌, length, map, None, Some, Ordering, Less, Equal, Greater}
 use Rattle.std.specs.List.{list_all, filter}
 use Rattle.std.specs.Ordering.{int_cmp, int_eq, match_ordering}
 use Rattle.std.specs.Prelude.{not}
@@ -20,12 +20,12 @@ use Rattle.ax_text.specs.declared.vocabulary.TimerOp.{TimerOp}
 use Rattle.ax_text.specs.declared.vocabulary.TimerOp.TheVariants as timer
 use Rattle.ax_text.specs.Exprs.{Expr, Facts, Names, value}
 use Rattle.ax_text.specs.Cells.{Cell, Value, Items as ItemsCell, Entries as EntriesCell, Cells, number_in, items_in, entries_in, entry_at, pair_of, empty_cell, kind_of, found, state_of, answer_in, answer_of, cell_after}
-use Rattle.ax_text.specs.Times.{insert_time, remove_time}
+use Rattle.ax_text.specs.Times.{insert_time}
 use Rattle.ax_text.specs.Texts.{Quiet, Let, Emit, Timer, Untimer, Asking, Get, GetAt, Has, Empty, Put, PutAt, PutAll, Add, Remove, Clear, Loop, Items, Entries, Text, Stop, Act, Ask, If, Each, Both}
 use Rattle.ax_text.specs.Functions.{upd}
 use Rattle.ax_text.specs.KeyStates.{KeyState}
-use Rattle.ax_text.specs.Run.{World, Talk, After, Assign, Ignore, request_of, after_of, take_in, number_or, talk_in, with_names, apply, serve, act_in, ask_in, loop_request, turns_of, bind, run_turns, run, begun, time_after, times_after, state_after}
-use Rattle.ax_text.specs.Valid.{has_kind, expr_fits, exprs_fit, quiet_fits, asking_fits, loop_fits, text_fits}
+use Rattle.ax_text.specs.Run.{World, After, Assign, Ignore, request_of, after_of, take_in, number_or, talk_in, with_names, apply, serve, act_in, ask_in, loop_request, turns_of, bind, run_turns, run, begun, time_after, times_after, state_after}
+use Rattle.ax_text.specs.Valid.{expr_fits, exprs_fit, quiet_fits, asking_fits, loop_fits, text_fits}
 use Rattle.ax_input.specs.OutLines.{is_few}
 use Rattle.ax_input.proofs.ValueLemmas.{AreNumbers, value_number}
 

@@ -1,6 +1,6 @@
 -- The lines of one state.
-use Rattle.std.proofs.Common.{◌≡◌, refl, sym, ap, ◌∙◌, ℕ, zero, suc, ◌+◌, ◌<◌, ℤ, List, [], ◌∷◌, ◌++◌, map, drop, length, Bool, true, false, nat_lt, get_or, arith, subst, Option, Some, None}
-use Rattle.std.proofs.lemmas.Bool.{and_parts, and_from, lt-ltb, true≢false, false≢true}
+use Rattle.std.proofs.Common.{◌≡◌, refl, sym, ap, ◌∙◌, ℕ, zero, suc, ◌+◌, ◌<◌, ℤ, List, [], ◌∷◌, ◌++◌, map, drop, length, true, nat_lt, get_or, arith, subst, None}
+use Rattle.std.proofs.lemmas.Bool.{and_parts, and_from, lt-ltb, false≢true}
 use Rattle.std.proofs.lemmas.List.{length-map, drop_more}
 use Rattle.std.proofs.Math.ListN.{get_or-map}
 use Rattle.ax_text.specs.declared.vocabulary.Kind.{Kind}

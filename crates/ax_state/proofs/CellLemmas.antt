@@ -17,7 +17,7 @@ use Rattle.ax_state.specs.declared.decls.Decl.{Decl}
 use Rattle.ax_state.specs.declared.cells.Held.{Held}
 use Rattle.ax_state.specs.Held.{shown_cell}
 use Rattle.ax_state.specs.Decls.{shown_states, kinds}
-use Rattle.ax_state.specs.Fits.{same_kind, has_kind, fits_in}
+use Rattle.ax_state.specs.Fits.{fits_in}
 use Rattle.ax_state.specs.KeyCells.{shown_cells, cell_kinds, IsEmptyCell}
 
 -- what a request leaves, as one function where it agrees at each state

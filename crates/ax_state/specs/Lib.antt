@@ -2,3 +2,4 @@ pub mod Decls
 pub mod Fits
 pub mod Held
 pub mod KeyCells
+pub mod Rising

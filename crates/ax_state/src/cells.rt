@@ -1,12 +1,11 @@
 //! The states of one key.
-ghost use Rattle.std.specs.Prelude.{◌≡◌, ◌↔◌, true, ℕ, IsTrue, Some, IfOk, OnOk, OnErr, map, All};
+ghost use Rattle.std.specs.Prelude.{◌≡◌, ◌↔◌, ◌++◌, ◌∷◌, [], true, ℕ, IsTrue, IfOk, OnOk, OnErr, map, All};
+ghost use Rattle.std.specs.List.Sorted.{IsStrictlySortedBy};
 ghost use Rattle.ax_text.specs.declared.vocabulary.Kind.TheVariants as kind;
-ghost use Rattle.ax_text.specs.Functions.{upd};
-ghost use Rattle.std.specs.Prelude.{◌++◌, ◌∷◌, []};
 ghost use Rattle.std.specs.Ordering.{int_cmp};
 ghost use Rattle.std.specs.Map.{remove_entry};
 ghost use Rattle.std.specs.BTreeMap.{is_at, insert_entry};
-ghost use Rattle.ax_text.specs.Cells.{Value, Items, Entries, number_in, items_in, entries_in, entry_at, pair_of, has_none, found, serves, answer_in, cell_after, answer_of, cells_after, kind_of, empty_cell};
+ghost use Rattle.ax_text.specs.Cells.{Items, Entries, number_in, items_in, entries_in, entry_at, pair_of, has_none, found, serves, answer_in, cell_after, answer_of, cells_after, kind_of, empty_cell};
 ghost use Rattle.ax_text.specs.Programs.{untouched};
 ghost use Rattle.ax_state.specs.Decls.{kinds};
 ghost use Rattle.ax_state.specs.Fits.{has_kind, fits_in};
@@ -95,10 +94,12 @@ impl KeyCells {
         }
     }
 
-    /// The entries of a state, by rising key. Condition: the state exists, and holds a map.
+    /// The entries of a state, by strictly rising key. Condition: the state exists, and holds a map. At `NoMemory` nothing is
+    /// kept.
     pub fn pairs(&self, alloc: Global, state: u8) -> Result<Pairs, NoMemory>
         requires { has_kind (cell_kinds self.now) state kind.Map ≡ true }
-        ensures { IfOk result (λ pairs. pairs ≡ map pair_of (entries_in (shown_cells self.now state))) }
+        ensures entries { IfOk result (λ pairs. pairs ≡ map pair_of (entries_in (shown_cells self.now state))) }
+        ensures rising { IfOk result (λ pairs. IsStrictlySortedBy int_cmp (map (λ p. p.at) pairs)) }
     {
         self.held[state as usize].pairs(alloc)
     }
@@ -153,6 +154,7 @@ fn copy_states(alloc: Global, held: &[Held]) -> Result<Vec<Held>, NoMemory>
     Ok(other)
 }
 
+// The answer of a number that may be missing.
 fn found(number: Option<i64>) -> Answer
     ensures { result ≡ found number }
 {
@@ -162,7 +164,7 @@ fn found(number: Option<i64>) -> Answer
     }
 }
 
-// An entry is put among entries.
+// An entry is set among entries. After an error nothing has changed.
 fn insert(entries: &mut BTreeMap<i64, i64>, at: i64, number: i64) -> Result<(), NoMemory>
     ensures ok { OnOk result (entries.new.entries ≡ insert_entry int_cmp entries.old.entries at number) }
     ensures err { OnErr result (entries.new.entries ≡ entries.old.entries) }
@@ -173,12 +175,17 @@ fn insert(entries: &mut BTreeMap<i64, i64>, at: i64, number: i64) -> Result<(), 
     }
 }
 
+// The entries of a map as pairs, by rising key.
 fn pairs_of(alloc: Global, entries: &BTreeMap<i64, i64>) -> Result<Pairs, NoMemory>
-    ensures { IfOk result (λ pairs. pairs ≡ map pair_of entries.now.entries) }
+    ensures entries { IfOk result (λ pairs. pairs ≡ map pair_of entries.now.entries) }
+    ensures rising { IfOk result (λ pairs. IsStrictlySortedBy int_cmp (map (λ p. p.at) pairs)) }
 {
     let mut pairs = Pairs::new(alloc);
-    for (at, number) in entries {
-        pairs.push(Pair { at: *at, number: *number })?;
+    for (at, number) in entries.iter() {
+        pairs.push(Pair {
+            at: *at,
+            number: *number,
+        })?;
     }
     Ok(pairs)
 }
@@ -190,11 +197,16 @@ impl Held {
     {
         match kind {
             Kind::Value => Held::Value { number: None },
-            Kind::List => Held::Items { items: Nums::new(alloc) },
-            Kind::Map => Held::Entries { entries: BTreeMap::new(alloc) },
+            Kind::List => Held::Items {
+                items: Nums::new(alloc),
+            },
+            Kind::Map => Held::Entries {
+                entries: BTreeMap::new(alloc),
+            },
         }
     }
 
+    // Its kind.
     fn kind(&self) -> Kind
         ensures { result ≡ kind_of (shown_cell self.now) }
     {
@@ -205,6 +217,7 @@ impl Held {
         }
     }
 
+    // The number of a value, where there is one.
     fn number(&self) -> Option<i64>
         ensures { result ≡ number_in (shown_cell self.now) }
     {
@@ -214,6 +227,7 @@ impl Held {
         }
     }
 
+    // A copy of a list's items.
     fn items(&self, alloc: Global) -> Result<Nums, NoMemory>
         ensures { IfOk result (λ items. items ≡ items_in (shown_cell self.now)) }
     {
@@ -223,8 +237,11 @@ impl Held {
         }
     }
 
+    // A map's entries, by rising key.
+    #[tactic(auto, using(crate::proofs::RisingLemmas::no_pairs))]
     fn pairs(&self, alloc: Global) -> Result<Pairs, NoMemory>
-        ensures { IfOk result (λ pairs. pairs ≡ map pair_of (entries_in (shown_cell self.now))) }
+        ensures entries { IfOk result (λ pairs. pairs ≡ map pair_of (entries_in (shown_cell self.now))) }
+        ensures rising { IfOk result (λ pairs. IsStrictlySortedBy int_cmp (map (λ p. p.at) pairs)) }
     {
         match self {
             Held::Entries { entries } => pairs_of(alloc, entries),
@@ -232,6 +249,7 @@ impl Held {
         }
     }
 
+    // The number of a map at a key, where there is one.
     fn entry(&self, at: &i64) -> Option<i64>
         ensures { result ≡ entry_at at.now (entries_in (shown_cell self.now)) }
     {
@@ -241,6 +259,7 @@ impl Held {
         }
     }
 
+    // Whether a map has no entry.
     fn has_none(&self) -> bool
         ensures { result ≡ has_none (entries_in (shown_cell self.now)) }
     {
@@ -262,6 +281,7 @@ impl Held {
         }
     }
 
+    // An entry of a map is set. After an error nothing has changed.
     fn put_at(&mut self, at: i64, number: i64) -> Result<(), NoMemory>
         requires { kind_of (shown_cell self.old) ≡ kind.Map }
         ensures ok { OnOk result (shown_cell self.new ≡ Entries (insert_entry int_cmp (entries_in (shown_cell self.old)) at number)) }
@@ -273,6 +293,7 @@ impl Held {
         }
     }
 
+    // The entry of a map at a key is taken out, if there is one.
     fn remove(&mut self, at: &i64)
         requires { kind_of (shown_cell self.old) ≡ kind.Map }
         ensures { shown_cell self.new ≡ Entries (remove_entry (is_at (int_cmp at.now)) (entries_in (shown_cell self.old))) }
@@ -301,14 +322,20 @@ impl Held {
             }
             Request::MapGet { at, .. } => return Ok(found(self.entry(at))),
             Request::MapHas { at, .. } => {
-                return Ok(Answer::Flag { yes: self.entry(at).is_some() });
+                return Ok(Answer::Flag {
+                    yes: self.entry(at).is_some(),
+                });
             }
-            Request::MapEmpty { .. } => return Ok(Answer::Flag { yes: self.has_none() }),
+            Request::MapEmpty { .. } => return Ok(Answer::Flag {
+                yes: self.has_none(),
+            }),
             Request::MapEntries { .. } => {
                 let pairs = self.pairs(alloc)?;
                 return Ok(Answer::Pairs { pairs });
             }
-            Request::ValuePut { number, .. } => *self = Held::Value { number: Some(*number) },
+            Request::ValuePut { number, .. } => *self = Held::Value {
+                number: Some(*number),
+            },
             Request::ListAdd { number, .. } => self.add(*number)?,
             Request::ListPut { items, .. } => {
                 let items = items.copy(alloc)?;
@@ -333,6 +360,7 @@ impl Held {
     }
 }
 
+// The same entries again.
 fn copy_entries(alloc: Global, entries: &BTreeMap<i64, i64>) -> Result<BTreeMap<i64, i64>, NoMemory>
     ensures { IfOk result (λ other. other.entries ≡ entries.now.entries) }
 {
@@ -343,13 +371,18 @@ fn copy_entries(alloc: Global, entries: &BTreeMap<i64, i64>) -> Result<BTreeMap<
 }
 
 impl Held {
+    // The same state again.
     fn copy(&self, alloc: Global) -> Result<Held, NoMemory>
         ensures { IfOk result (λ other. shown_cell other ≡ shown_cell self.now) }
     {
         match self {
             Held::Value { number } => Ok(Held::Value { number: *number }),
-            Held::Items { items } => Ok(Held::Items { items: items.copy(alloc)? }),
-            Held::Entries { entries } => Ok(Held::Entries { entries: copy_entries(alloc, entries)? }),
+            Held::Items { items } => Ok(Held::Items {
+                items: items.copy(alloc)?,
+            }),
+            Held::Entries { entries } => Ok(Held::Entries {
+                entries: copy_entries(alloc, entries)?,
+            }),
         }
     }
 }

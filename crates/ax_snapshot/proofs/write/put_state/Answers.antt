@@ -1,4 +1,4 @@
-use Rattle.std.proofs.Common.{◌≡◌, ap, ◌∙◌, sym, subst, List, true, OnOk}
+use Rattle.std.proofs.Common.{◌≡◌, ap, ◌∙◌, subst, List, true, OnOk}
 use Rattle.ax_text.specs.declared.vocabulary.Kind.{Kind}
 use Rattle.ax_state.specs.Fits.{has_kind}
 use Rattle.ax_state.specs.KeyCells.{cell_kinds}
@@ -16,5 +16,5 @@ returns-in_ok-pairs-in-Map c =
     let OfKind : Kind → Type 0 = λ k. has_kind (cell_kinds cells) c.args.state k ≡ true in
     let Put : List OutLine → Type 0 = λ ls. OnOk c.put_pairs.result (Adds c.args.block.now c.put_pairs.new.block ls) in
     subst Put
-    (ap (pair_lines key name) (c.as_slice.ensures ∙ c.in_ok-pairs-in-Map.ensures) ∙ lines_of_map key name cells c.args.state (subst OfKind c.in-Map.is c.requires))
+    (ap (pair_lines key name) (c.as_slice.ensures ∙ c.in_ok-pairs-in-Map.ensures.entries) ∙ lines_of_map key name cells c.args.state (subst OfKind c.in-Map.is c.requires))
     c.put_pairs.ensures

@@ -1,4 +1,4 @@
-use Rattle.std.proofs.Common.{◌≡◌, ◌∙◌, ap, sym, subst, ℕ, true, OnOk, OnErr, length, Ok, Err, Result, get_or, ◌<◌, map, slice_set}
+use Rattle.std.proofs.Common.{◌≡◌, ◌∙◌, ap, ℕ, OnOk, OnErr, length, Ok, Err, Result, get_or, ◌<◌, map, slice_set}
 use Rattle.ax_text.specs.Cells.{Cell, kind_of, serves, cell_after, state_of}
 use Rattle.ax_state.specs.Held.{shown_cell}
 use Rattle.ax_state.specs.KeyCells.{shown_cells, cell_kinds}
@@ -21,7 +21,7 @@ serve-requires c =
     let d = c.index_mut-held.result.now in
     let low : state_of r < length cells = is_there cells r c.requires in
     let here : shown_cell d ≡ shown_cells cells (state_of r) =
-        ap shown_cell (c.index_mut-held.ensures.value ∙ ap (λ (i : ℕ). get_or hs i d) c.state.ensures) ∙ held_at hs cells (state_of r) d c.self.view_is low in
+    ap shown_cell (c.index_mut-held.ensures.value ∙ ap (λ (i : ℕ). get_or hs i d) c.state.ensures) ∙ held_at hs cells (state_of r) d c.self.view_is low in
     ap (λ (x : Cell). serves (kind_of x) r) here ∙ serves_it cells r c.requires
 
 here : (c : goal.After-self-1) → shown_cell c.index_mut-held.result.now ≡ shown_cells c.args.self.now (state_of c.args.r.now)
@@ -38,8 +38,8 @@ returns-clause-cells c =
     let r = c.args.r.now in
     let h = c.serve.new.self in
     on_ok c.serve.result c.serve.ensures.cell (λ e s.
-      ap (λ (i : ℕ). shown_cells (map shown_cell (slice_set hs i h)) s) c.state.ensures
-      ∙ served_cells hs cells r h c.self.view_is c.requires (e ∙ ap (cell_after r) (here c)) s)
+    ap (λ (i : ℕ). shown_cells (map shown_cell (slice_set hs i h)) s) c.state.ensures
+    ∙ served_cells hs cells r h c.self.view_is c.requires (e ∙ ap (cell_after r) (here c)) s)
 
 pub returns-clause-kinds : goal.returns-clause-kinds
 returns-clause-kinds c =
@@ -57,5 +57,5 @@ returns-clause-err c =
     let r = c.args.r.now in
     let h = c.serve.new.self in
     on_err c.serve.result c.serve.ensures.err (λ e.
-      ap (λ (i : ℕ). map shown_cell (slice_set hs i h)) c.state.ensures
-      ∙ kept_cells hs cells r h c.self.view_is c.requires (e ∙ here c))
+    ap (λ (i : ℕ). map shown_cell (slice_set hs i h)) c.state.ensures
+    ∙ kept_cells hs cells r h c.self.view_is c.requires (e ∙ here c))
