@@ -8,7 +8,7 @@ use Rattle.std.specs.List.Sorted.{IsStrictlySortedBy}
 use Rattle.std.specs.Map.{lookup, values_of, keys_of, remove_entry, set_value}
 use Rattle.std.specs.BTreeMap.{insert_entry}
 use Rattle.std.proofs.lemmas.Map.Entries.{sum_by-remove_entry, sum_by-set_value, sum_by-insert_entry}
-use Rattle.std.proofs.lemmas.Bool.{false≢true, false_from_ne_true, not-true}
+use Rattle.std.proofs.lemmas.Bool.{false≢true, false_from_ne_true, not-true, cond-true, cond-false}
 use Rattle.std.proofs.lemmas.List.Elements.{All-push, All-filter, filter_passes}
 use Rattle.std.proofs.lemmas.Map.Keys.{IsDistinct-push}
 use Rattle.std.proofs.lemmas.Map.Made.{is_some-lookup}
@@ -21,7 +21,7 @@ use Rattle.ax_account.specs.Parts.{Part, free, is_free, kept, waits, owned, next
 use Rattle.ax_keys.specs.Keys.{key_cmp}
 use Rattle.ax_account.specs.Queues.{same_key, has_key, without, AreDistinct}
 use Rattle.ax_account.specs.Accounts.{Parts, Accounts, Sets, Changes, AreSound, occupied}
-use Rattle.ax_account.proofs.QueueLemmas.{key_is, key_laws, at_true, at_false, IsDistinct-without}
+use Rattle.ax_account.proofs.QueueLemmas.{key_is, key_laws, IsDistinct-without}
 
 module _ (es fs : Parts) (key : List ℕ) where
   pub sets_written : (v w : Part) → Some v ≡ lookup (same_key key) es → fs ≡ set_value (same_key key) es w
@@ -99,7 +99,7 @@ kept_is p = go (is_free p) refl
     go false e = refl
 
 pub kept_some : (p : Part) → is_free p ≡ false → kept p ≡ Some p
-kept_some p e = at_false (is_free p) None (Some p) e
+kept_some p e = cond-false (is_free p) None (Some p) e
 
 kept_listed : (p : Part) → is_some (kept p) ≡ not (is_free (unwrap_or (kept p) free))
 kept_listed p = go (is_free p) refl
@@ -125,13 +125,13 @@ module _ (es fs gs : Parts) (key : List ℕ) where
     totals = λ f.
         let first = one.totals f in
         let second = two.totals f in
-        let between : unwrap_or (option_map f (lookup (same_key key) fs)) 0 ≡ unwrap_or (option_map f v) 0 = ap (λ o. unwrap_or (option_map f o) 0) (one.at key ∙ at_true (same_key key key) v (lookup (same_key key) es) (key_laws.refl key)) in
+        let between : unwrap_or (option_map f (lookup (same_key key) fs)) 0 ≡ unwrap_or (option_map f v) 0 = ap (λ o. unwrap_or (option_map f o) 0) (one.at key ∙ cond-true (same_key key key) v (lookup (same_key key) es) (key_laws.refl key)) in
         omega arith;
   }
     where
       go : (q : List ℕ) → (b : Bool) → same_key key q ≡ b → cond b w (lookup (same_key q) fs) ≡ cond b w (lookup (same_key q) es)
       go q true e = refl
-      go q false e = one.at q ∙ at_false (same_key key q) v (lookup (same_key q) es) e
+      go q false e = one.at q ∙ cond-false (same_key key q) v (lookup (same_key q) es) e
 
   module _ (left : Part → List Waiting) (none : left free ≡ []) where
     pub handed_free : Sets es fs key (option_map (λ part. taken_up (left part)) (lookup (same_key key) es)) → Sets fs gs key None
@@ -159,10 +159,10 @@ module _ (es fs gs : Parts) (key : List ℕ) where
 -- ---- the accounts after a change of one key
 module _ (es fs : Parts) (idle idle' : List (List ℕ)) (key : List ℕ) (p : Part) (sets : Sets es fs key (kept p)) where
   changed_own : unwrap_or (lookup (same_key key) fs) free ≡ p
-  changed_own = ap (λ o. unwrap_or o free) (sets.at key ∙ at_true (same_key key key) (kept p) (lookup (same_key key) es) (key_laws.refl key)) ∙ kept_is p
+  changed_own = ap (λ o. unwrap_or o free) (sets.at key ∙ cond-true (same_key key key) (kept p) (lookup (same_key key) es) (key_laws.refl key)) ∙ kept_is p
 
   changed_other : (q : List ℕ) → same_key key q ≡ false → unwrap_or (lookup (same_key q) fs) free ≡ unwrap_or (lookup (same_key q) es) free
-  changed_other q e = ap (λ o. unwrap_or o free) (sets.at q ∙ at_false (same_key key q) (kept p) (lookup (same_key q) es) e)
+  changed_other q e = ap (λ o. unwrap_or o free) (sets.at q ∙ cond-false (same_key key q) (kept p) (lookup (same_key q) es) e)
 
   pub changes : Changes (record { parts = es; idle = idle }) (record { parts = fs; idle = idle' }) key p
   changes = record {
@@ -277,7 +277,7 @@ module _ (es fs : Parts) (key : List ℕ) where
   pub sets_occupied : (id : Id) → is_some (lookup (same_key key) es) ≡ true → is_free (unwrap_or (lookup (same_key key) es) free) ≡ false
       → Sets es fs key (option_map (waits (Row id)) (lookup (same_key key) es)) → Sets es fs key (kept (occupied id (unwrap_or (lookup (same_key key) es) free)))
   sets_occupied id there taken sets =
-      subst (λ (p : Part). Sets es fs key (kept p)) (sym (at_false (is_free (unwrap_or (lookup (same_key key) es) free)) (owned id) (waits (Row id) (unwrap_or (lookup (same_key key) es) free)) taken)) (sets_waits (Row id) there sets)
+      subst (λ (p : Part). Sets es fs key (kept p)) (sym (cond-false (is_free (unwrap_or (lookup (same_key key) es) free)) (owned id) (waits (Row id) (unwrap_or (lookup (same_key key) es) free)) taken)) (sets_waits (Row id) there sets)
 
   pub sets_owned : (id : Id) (entry : Part) → entry ≡ owned id → is_some (lookup (same_key key) es) ≡ false → Sets es fs key (Some entry)
       → Sets es fs key (kept (occupied id (unwrap_or (lookup (same_key key) es) free)))

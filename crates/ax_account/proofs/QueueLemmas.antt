@@ -11,13 +11,14 @@ use Rattle.std.specs.Map.{lookup, values_of, remove_entry}
 use Rattle.std.specs.BTreeMap.{is_at, insert_entry}
 use Rattle.std.specs.Prelude.{◌||◌, ◌^◌}
 use Rattle.std.proofs.lemmas.List.{length-append}
-use Rattle.std.proofs.lemmas.Bool.{or_left, or_right, or_from, or_parts, false_from_ne_true}
+use Rattle.std.proofs.lemmas.Bool.{or_left, or_right, or_from, or_parts, false_from_ne_true, cond-true, cond-false}
 use Rattle.std.proofs.lemmas.List.Elements.{All-nil, All-cons, All-head, All-tail, All-push, All-filter, All-from_recursion, recursion_from_All, All-map}
 use Rattle.std.proofs.lemmas.List.Folds.{list_any_none}
 use Rattle.std.proofs.lemmas.Map.Keys.{IsDistinct-push, IsDistinct-head, IsDistinct-tail, IsDistinct-cons, IsDistinct-from_apart}
 use Rattle.std.proofs.lemmas.Map.Entries.{length-values_of}
 use Rattle.std.proofs.lemmas.Map.Lookups.{exact_bytes, exact_unsigned}
 use Rattle.std.proofs.lemmas.Map.Views.{tells_apart}
+use Rattle.std.proofs.lemmas.Option.{same_Some}
 use Rattle.ax_account.specs.Queues.{same_key, has_key, without, first_of, AreDistinct, AreLinked}
 
 pub key_is : (k q : List ℕ) → same_key k q ≡ true → k ≡ q
@@ -32,12 +33,9 @@ key_laws = eq_by_cmp_equiv nat_list_cmp_total
 pub number_itself : (n : ℕ) → is_at (nat_cmp n) n ≡ true
 number_itself n = (eq_by_cmp_equiv nat_cmp_total).refl n
 
-some_is : {A : Type 0} (x y : A) → Some x ≡ Some y → x ≡ y
-some_is x y e = cc
-
 pub first_value : (es : List (ℕ × List ℕ)) (p : ℕ × List ℕ) → slice_get es 0 ≡ Some p → first_of (values_of es) ≡ Some p.1
 first_value [] p e = absurd cc
-first_value (x ∷ es) p e = ap (λ (q : ℕ × List ℕ). Some q.1) (some_is x p e)
+first_value (x ∷ es) p e = ap (λ (q : ℕ × List ℕ). Some q.1) (same_Some x p e)
 
 inserted_last : (es : List (ℕ × List ℕ)) (n : ℕ) (k : List ℕ) → All (λ e. e.0 < n) es → insert_entry nat_cmp es n k ≡ es ++ (n, k) ∷ []
 inserted_last [] n k all = refl
@@ -67,12 +65,6 @@ below_none (e ∷ es) n all =
     ap (λ r. cond (is_at (λ (x : ℕ). r) e.0) (Some e.1) (lookup (is_at (nat_cmp n)) es)) (sym after)
     ∙ below_none es n (All-tail (λ e. e.0 < n) e es all)
 
-pub at_true : {A : Type 0} (b : Bool) (x y : A) → b ≡ true → cond b x y ≡ x
-at_true b x y e = ap (λ t. cond t x y) e
-
-pub at_false : {A : Type 0} (b : Bool) (x y : A) → b ≡ false → cond b x y ≡ y
-at_false b x y e = ap (λ t. cond t x y) e
-
 module _ (keys : List (ℕ × List ℕ)) (numbers : List (List ℕ × ℕ)) (next : ℕ) (linked : AreLinked keys numbers next) (key : List ℕ) where
   module _ (keys' : List (ℕ × List ℕ)) (numbers' : List (List ℕ × ℕ)) where
     pub linked_put : has_key (values_of keys) key ≡ false → keys' ≡ insert_entry nat_cmp keys next key
@@ -86,19 +78,19 @@ module _ (keys : List (ℕ × List ℕ)) (numbers : List (List ℕ × ℕ)) (nex
               (All-push (λ (e : ℕ × List ℕ). e.0 < next + 1) keys (next, key) (λ i d in'. let h : _ = linked.below i d in' in omega arith) (omega arith));
           forth = subst (λ (es : List (ℕ × List ℕ)). All (λ e. lookup (same_key e.1) numbers' ≡ Some e.0) es) (sym shape)
               (All-push (λ (e : ℕ × List ℕ). lookup (same_key e.1) numbers' ≡ Some e.0) keys (next, key)
-              (λ i d in'. at_key _ ∙ at_false _ _ _ (none_same key keys absent i d in') ∙ linked.forth i d in')
-              (at_key key ∙ at_true _ _ _ (key_laws.refl key)));
+              (λ i d in'. at_key _ ∙ cond-false _ _ _ (none_same key keys absent i d in') ∙ linked.forth i d in')
+              (at_key key ∙ cond-true _ _ _ (key_laws.refl key)));
           back = λ q n e. back_put q n (sym (at_key q) ∙ e) (same_key key q) refl;
           distinct = subst AreDistinct (sym (ap (λ r. values_of r) shape ∙ values-push keys (next, key))) (IsDistinct-push key_laws (values_of keys) key linked.distinct absent);
         }
       where
         back_put : (q : List ℕ) (n : ℕ) → cond (same_key key q) (Some next) (lookup (same_key q) numbers) ≡ Some n → (b : Bool) → same_key key q ≡ b → lookup (is_at (nat_cmp n)) keys' ≡ Some q
         back_put q n e true same =
-            let n_is : next ≡ n = some_is next n (sym (at_true (same_key key q) (Some next) (lookup (same_key q) numbers) same) ∙ e) in
-            at_number n ∙ at_true (is_at (nat_cmp next) n) (Some key) (lookup (is_at (nat_cmp n)) keys) (subst (λ m. is_at (nat_cmp next) m ≡ true) n_is (number_itself next)) ∙ ap Some (key_is key q same)
+            let n_is : next ≡ n = same_Some next n (sym (cond-true (same_key key q) (Some next) (lookup (same_key q) numbers) same) ∙ e) in
+            at_number n ∙ cond-true (is_at (nat_cmp next) n) (Some key) (lookup (is_at (nat_cmp n)) keys) (subst (λ m. is_at (nat_cmp next) m ≡ true) n_is (number_itself next)) ∙ ap Some (key_is key q same)
         back_put q n e false same =
-            let old : lookup (is_at (nat_cmp n)) keys ≡ Some q = linked.back q n (sym (at_false (same_key key q) (Some next) (lookup (same_key q) numbers) same) ∙ e) in
-            at_number n ∙ at_false (is_at (nat_cmp next) n) (Some key) (lookup (is_at (nat_cmp n)) keys) (false_from_ne_true (is_at (nat_cmp next) n) (λ t.
+            let old : lookup (is_at (nat_cmp n)) keys ≡ Some q = linked.back q n (sym (cond-false (same_key key q) (Some next) (lookup (same_key q) numbers) same) ∙ e) in
+            at_number n ∙ cond-false (is_at (nat_cmp next) n) (Some key) (lookup (is_at (nat_cmp n)) keys) (false_from_ne_true (is_at (nat_cmp next) n) (λ t.
             let n_is : next ≡ n = number_is next n t in
             let none : None ≡ Some q = sym (below_none keys next linked.below) ∙ subst (λ m. lookup (is_at (nat_cmp m)) keys ≡ Some q) (sym n_is) old in
             cc)) ∙ old
@@ -118,7 +110,7 @@ linked_nil keys numbers e f = subst (λ (k : List (ℕ × List ℕ)). AreLinked 
 filter-keeps : (p : List ℕ → Bool) (ks : List (List ℕ)) → All (λ k. p k ≡ true) ks → filter p ks ≡ ks
 filter-keeps p [] all = refl
 filter-keeps p (k ∷ ks) all =
-    at_true (p k) (k ∷ filter p ks) (filter p ks) (All-head (λ k. p k ≡ true) k ks all)
+    cond-true (p k) (k ∷ filter p ks) (filter p ks) (All-head (λ k. p k ≡ true) k ks all)
     ∙ ap (λ r. k ∷ r) (filter-keeps p ks (All-tail (λ k. p k ≡ true) k ks all))
 
 not_same : (key : List ℕ) (ks : List (List ℕ)) → All (λ q. same_key key q ≡ false) ks → without key ks ≡ ks
@@ -129,7 +121,7 @@ pub without_absent : (key : List ℕ) (ks : List (List ℕ)) → has_key ks key 
 without_absent key [] e = refl
 without_absent key (k ∷ ks) e =
     let parts = or_parts (same_key key k) (has_key ks key) e in
-    at_true (not (same_key key k)) (k ∷ without key ks) (without key ks) (ap not parts.0)
+    cond-true (not (same_key key k)) (k ∷ without key ks) (without key ks) (ap not parts.0)
     ∙ ap (λ r. k ∷ r) (without_absent key ks parts.1)
 
 values_removed : (n : ℕ) (key : List ℕ) (es : List (ℕ × List ℕ)) → All (λ e. is_at (nat_cmp n) e.0 ≡ same_key key e.1) es → AreDistinct (values_of es) → values_of (remove_entry (is_at (nat_cmp n)) es) ≡ without key (values_of es)
@@ -143,13 +135,13 @@ values_removed n key (e ∷ es) agree distinct =
     go : values_of (remove_entry (is_at (nat_cmp n)) es) ≡ without key (values_of es) → (b : Bool) → same_key key e.1 ≡ b
         → values_of (cond (is_at (nat_cmp n) e.0) es (e ∷ remove_entry (is_at (nat_cmp n)) es)) ≡ cond (not (same_key key e.1)) (e.1 ∷ without key (values_of es)) (without key (values_of es))
     go rest true same =
-        ap (λ r. values_of r) (at_true (is_at (nat_cmp n) e.0) es (e ∷ remove_entry (is_at (nat_cmp n)) es) (head ∙ same))
+        ap (λ r. values_of r) (cond-true (is_at (nat_cmp n) e.0) es (e ∷ remove_entry (is_at (nat_cmp n)) es) (head ∙ same))
         ∙ sym (not_same key (values_of es) (subst (λ k. All (λ q. same_key k q ≡ false) (values_of es)) (sym (key_is key e.1 same)) (All-from_recursion (λ q. same_key e.1 q ≡ false) (values_of es) (IsDistinct-head same_key e.1 (values_of es) distinct))))
-        ∙ sym (at_false (not (same_key key e.1)) (e.1 ∷ without key (values_of es)) (without key (values_of es)) (ap not same))
+        ∙ sym (cond-false (not (same_key key e.1)) (e.1 ∷ without key (values_of es)) (without key (values_of es)) (ap not same))
     go rest false same =
-        ap (λ r. values_of r) (at_false (is_at (nat_cmp n) e.0) es (e ∷ remove_entry (is_at (nat_cmp n)) es) (head ∙ same))
+        ap (λ r. values_of r) (cond-false (is_at (nat_cmp n) e.0) es (e ∷ remove_entry (is_at (nat_cmp n)) es) (head ∙ same))
         ∙ ap (λ r. e.1 ∷ r) rest
-        ∙ sym (at_true (not (same_key key e.1)) (e.1 ∷ without key (values_of es)) (without key (values_of es)) (ap not same))
+        ∙ sym (cond-true (not (same_key key e.1)) (e.1 ∷ without key (values_of es)) (without key (values_of es)) (ap not same))
 
 pub IsDistinct-without : (key : List ℕ) (ks : List (List ℕ)) → AreDistinct ks → AreDistinct (without key ks)
 IsDistinct-without key [] distinct = distinct
@@ -200,7 +192,7 @@ module _ (keys : List (ℕ × List ℕ)) (numbers : List (List ℕ × ℕ)) (nex
         go true same =
             let e = get_or keys i d in
             let own : lookup (same_key key) numbers ≡ Some e.0 = subst (λ q. lookup (same_key q) numbers ≡ Some e.0) (sym (key_is key e.1 same)) (linked.forth i d in') in
-            let one : n ≡ e.0 = some_is n e.0 (sym found ∙ own) in
+            let one : n ≡ e.0 = same_Some n e.0 (sym found ∙ own) in
             subst (λ m. is_at (nat_cmp n) m ≡ true) one (number_itself n) ∙ sym same
         go false same =
             let e = get_or keys i d in
@@ -208,7 +200,7 @@ module _ (keys : List (ℕ × List ℕ)) (numbers : List (List ℕ × ℕ)) (nex
             let one : n ≡ e.0 = number_is n e.0 t in
             let there : lookup (is_at (nat_cmp e.0)) keys ≡ Some e.1 = linked.back e.1 e.0 (linked.forth i d in') in
             let here : lookup (is_at (nat_cmp e.0)) keys ≡ Some key = subst (λ m. lookup (is_at (nat_cmp m)) keys ≡ Some key) one (linked.back key n found) in
-            let both : key ≡ e.1 = some_is key e.1 (sym here ∙ there) in
+            let both : key ≡ e.1 = same_Some key e.1 (sym here ∙ there) in
             let itself : same_key key e.1 ≡ true = subst (λ q. same_key key q ≡ true) both (key_laws.refl key) in
             let wrong : false ≡ true = sym same ∙ itself in
             cc) ∙ sym same
@@ -226,18 +218,18 @@ module _ (keys : List (ℕ × List ℕ)) (numbers : List (List ℕ × ℕ)) (nex
             (left_over (λ e. e.0 < next) n key keys agree linked.distinct (λ i d in' apart. linked.below i d in'));
         forth = subst (λ (es : List (ℕ × List ℕ)). All (λ e. lookup (same_key e.1) numbers' ≡ Some e.0) es) (sym is)
             (left_over (λ e. lookup (same_key e.1) numbers' ≡ Some e.0) n key keys agree linked.distinct
-            (λ i d in' apart. at_key (get_or keys i d).1 ∙ at_false _ None (lookup (same_key (get_or keys i d).1) numbers) apart ∙ linked.forth i d in'));
+            (λ i d in' apart. at_key (get_or keys i d).1 ∙ cond-false _ None (lookup (same_key (get_or keys i d).1) numbers) apart ∙ linked.forth i d in'));
         back = λ q m e. back_left q m (sym (at_key q) ∙ e) (same_key key q) refl;
         distinct = subst AreDistinct (sym (ap (λ r. values_of r) is ∙ keys_left)) (IsDistinct-without key (values_of keys) linked.distinct);
       }
         where
           back_left : (q : List ℕ) (m : ℕ) → cond (same_key key q) None (lookup (same_key q) numbers) ≡ Some m → (b : Bool) → same_key key q ≡ b → lookup (is_at (nat_cmp m)) keys' ≡ Some q
-          back_left q m e true same = let wrong : None ≡ Some m = sym (at_true (same_key key q) None (lookup (same_key q) numbers) same) ∙ e in absurd cc
+          back_left q m e true same = let wrong : None ≡ Some m = sym (cond-true (same_key key q) None (lookup (same_key q) numbers) same) ∙ e in absurd cc
           back_left q m e false same =
-              let old : lookup (is_at (nat_cmp m)) keys ≡ Some q = linked.back q m (sym (at_false (same_key key q) None (lookup (same_key q) numbers) same) ∙ e) in
-              at_number m ∙ at_false (is_at (nat_cmp n) m) None (lookup (is_at (nat_cmp m)) keys) (false_from_ne_true (is_at (nat_cmp n) m) (λ t.
+              let old : lookup (is_at (nat_cmp m)) keys ≡ Some q = linked.back q m (sym (cond-false (same_key key q) None (lookup (same_key q) numbers) same) ∙ e) in
+              at_number m ∙ cond-false (is_at (nat_cmp n) m) None (lookup (is_at (nat_cmp m)) keys) (false_from_ne_true (is_at (nat_cmp n) m) (λ t.
               let here : lookup (is_at (nat_cmp m)) keys ≡ Some key = subst (λ x. lookup (is_at (nat_cmp x)) keys ≡ Some key) (number_is n m t) (linked.back key n found) in
-              let both : key ≡ q = some_is key q (sym here ∙ old) in
+              let both : key ≡ q = same_Some key q (sym here ∙ old) in
               let itself : same_key key q ≡ true = subst (λ x. same_key key x ≡ true) both (key_laws.refl key) in
               let wrong : false ≡ true = sym same ∙ itself in
               cc)) ∙ old
@@ -248,7 +240,7 @@ listed_value n key [] e = let wrong : None ≡ Some key = e in absurd cc
 listed_value n key (x ∷ es) e = go (listed_value n key es) (is_at (nat_cmp n) x.0) e
   where
     go : (lookup (is_at (nat_cmp n)) es ≡ Some key → has_key (values_of es) key ≡ true) → (b : Bool) → cond b (Some x.1) (lookup (is_at (nat_cmp n)) es) ≡ Some key → (same_key key x.1 || has_key (values_of es) key) ≡ true
-    go rest true f = or_left (same_key key x.1) (has_key (values_of es) key) (subst (λ q. same_key key q ≡ true) (sym (some_is x.1 key f)) (key_laws.refl key))
+    go rest true f = or_left (same_key key x.1) (has_key (values_of es) key) (subst (λ q. same_key key q ≡ true) (sym (same_Some x.1 key f)) (key_laws.refl key))
     go rest false f = or_right (same_key key x.1) (has_key (values_of es) key) (rest f)
 
 module _ (keys : List (ℕ × List ℕ)) (numbers : List (List ℕ × ℕ)) (next : ℕ) (linked : AreLinked keys numbers next) (key : List ℕ) where
@@ -275,7 +267,7 @@ module _ (keys : List (ℕ × List ℕ)) (numbers : List (List ℕ × ℕ)) (nex
     where
       go : (q : List ℕ) → (b : Bool) → same_key key q ≡ b → cond b None (lookup (same_key q) put) ≡ lookup (same_key q) numbers
       go q true e = sym (subst (λ x. lookup (same_key x) numbers ≡ None) (key_is key q e) (numberless absent))
-      go q false e = at_put q ∙ at_false (same_key key q) (Some next) (lookup (same_key q) numbers) e
+      go q false e = at_put q ∙ cond-false (same_key key q) (Some next) (lookup (same_key q) numbers) e
 
       same : (q : List ℕ) → lookup (same_key q) numbers' ≡ lookup (same_key q) numbers
       same q = at_key q ∙ go q (same_key key q) refl
@@ -304,8 +296,8 @@ module _ (keys : List (ℕ × List ℕ)) (numbers : List (List ℕ × ℕ)) (nex
       omega (arith, length-append fresh (key ∷ rest'))
 
 pub without_pushed : (key : List ℕ) (ks : List (List ℕ)) → has_key ks key ≡ false → without key (ks ++ key ∷ []) ≡ ks
-without_pushed key [] e = at_false (not (same_key key key)) (key ∷ []) [] (ap not (key_laws.refl key))
+without_pushed key [] e = cond-false (not (same_key key key)) (key ∷ []) [] (ap not (key_laws.refl key))
 without_pushed key (k ∷ ks) e =
     let parts = or_parts (same_key key k) (has_key ks key) e in
-    at_true (not (same_key key k)) (k ∷ without key (ks ++ key ∷ [])) (without key (ks ++ key ∷ [])) (ap not parts.0)
+    cond-true (not (same_key key k)) (k ∷ without key (ks ++ key ∷ [])) (without key (ks ++ key ∷ [])) (ap not parts.0)
     ∙ ap (λ r. k ∷ r) (without_pushed key ks parts.1)

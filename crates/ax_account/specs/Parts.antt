@@ -1,5 +1,6 @@
 -- What is kept of one key: an owner or none, and what waits for the key, the oldest first.
 use Rattle.std.specs.Prelude.{◌+◌, Bool, true, false, ◌&&◌, List, [], ◌∷◌, ◌++◌, drop, nat_lt, Option, Some, None, is_none, if◌then◌else◌}
+use Rattle.ax_keys.specs.declared.TheConstants.{MOST_FIRINGS}
 use Rattle.ax_context.specs.declared.id.Id.{Id}
 use Rattle.ax_account.specs.declared.part.Waiting.{Waiting}
 use Rattle.ax_account.specs.declared.part.Waiting.TheVariants.{Row, Mark}
@@ -53,7 +54,7 @@ is_mark next.Free = false
 -- a mark that has fired less often than a mark may
 abbrev pub may_fire : Next → Bool
 may_fire (next.Row id) = false
-may_fire (next.Mark epoch time fired) = nat_lt fired 65536
+may_fire (next.Mark epoch time fired) = nat_lt fired MOST_FIRINGS
 may_fire next.Free = false
 
 -- the mark in front has fired once more; it stays in front

@@ -16,5 +16,5 @@ mod idle;
 pub mod part;
 
 pub use accounting::Accounting;
-pub use ax_keys::Keys;
-pub use part::{MOST_FIRINGS, Next, Occupied, Waiting};
+pub use ax_keys::{Keys, MOST_FIRINGS};
+pub use part::{Next, Occupied, Waiting};

@@ -2,9 +2,6 @@
 
 use ax_context::Id;
 
-/// How many times a mark may fire.
-pub const MOST_FIRINGS: u32 = 65536;
-
 /// What became of a row that came for a key.
 #[derive(Clone, Copy, Debug, PartialEq, Eq)]
 pub enum Occupied {

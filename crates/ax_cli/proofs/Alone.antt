@@ -1,6 +1,7 @@
 -- What is left without a run.
 use Rattle.std.proofs.Common.{◌≡◌, ℕ, inl, inr, List, Option, Some, None, refl, sym, subst}
 use Rattle.std.specs.Io.KnownBytes.{Keeps}
+use Rattle.ax_task.proofs.Gathering.{keeps_refl}
 use Rattle.ax_base.specs.Outside.{Counts, Told}
 use Rattle.ax_task.specs.Parse.{Parsed, BadProgram, Runs, parse}
 use Rattle.ax_task.specs.Clause.{Holds, RunCounts}
@@ -22,10 +23,6 @@ apart e = subst IsUsage (sym e) tt
 told_same : (P : List ℕ → List ℕ → Type 0) (l : Option (List ℕ)) → ((a : List ℕ) → P a a) → Told l l P
 told_same P None h = tt
 told_same P (Some a) h = h a
-
-keeps_same : (h : Option (List ℕ)) → Keeps h h
-keeps_same None = tt
-keeps_same (Some a) = refl
 
 module _ (asked : Option Options) (l h : Option (List ℕ)) (counts : RunCounts) (err : Holds) (before now : Counts) where
   abbrev pub untouched : Streams
@@ -52,7 +49,7 @@ module _ (asked : Option Options) (l h : Option (List ℕ)) (counts : RunCounts)
   leaves_short line = record {
     usage = λ e. absurd (apart e);
     refused = λ e. inl refl;
-    untouched = λ e. (keeps_same l, keeps_same h, (refl, refl));
+    untouched = λ e. (keeps_refl l, keeps_refl h, (refl, refl));
     told = told_same (λ a b. StatusOf (groups_by asked) (record { old = h; new = h }) (parse a) b status.NoMemory) l (λ a. short_of (parse a) a);
     stopped = stop_start (groups_by asked) serial l h;
     counts = (inl refl, refl, inl refl);
@@ -65,7 +62,7 @@ module _ (asked : Option Options) (l h : Option (List ℕ)) (counts : RunCounts)
   leaves_usage none line = record {
     usage = λ e. none;
     refused = λ e. inr refl;
-    untouched = λ e. (keeps_same l, keeps_same h, (refl, refl));
+    untouched = λ e. (keeps_refl l, keeps_refl h, (refl, refl));
     told = told_same (λ a b. Unit {0}) l (λ a. tt);
     stopped = told_same (λ a b. Unit {0}) l (λ a. tt);
     counts = (refl, refl);

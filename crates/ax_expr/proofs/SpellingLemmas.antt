@@ -3,6 +3,7 @@ use Rattle.std.proofs.Common.{◌≡◌, ◌∙◌, ℕ, ◌+◌, ◌≤◌, ◌
 use Rattle.std.proofs.lemmas.Bool.Decides.{nat_tests}
 use Rattle.std.proofs.lemmas.List.{append-nil}
 use Rattle.std.specs.Prelude.{nat_le, if◌then◌else◌}
+use Rattle.std.proofs.lemmas.Bool.{le-leb, lt-leb}
 use Rattle.ax_text.specs.declared.vocabulary.Op.{Op}
 use Rattle.ax_expr.specs.declared.tree.Token.{Token}
 use Rattle.ax_expr.specs.declared.tree.Token.TheVariants.{Open, Close, Sign}
@@ -17,19 +18,13 @@ Looser n [] = Unit {0}
 Looser n (Opened ∷ ws) = Unit {0}
 Looser n (Before l o ∷ ws) = level_of o < n
 
-at_least : (m n : ℕ) → m ≤ n → nat_le m n ≡ true
-at_least m n h = grind (arith, nat_tests)
-
-below : (m n : ℕ) → n < m → nat_le m n ≡ false
-below m n h = grind (arith, nat_tests)
-
 joined_looser : (m n : ℕ) (x : Expr) (ws : List Waiting) → n ≤ m → Looser n ws → joined m x ws ≡ record { value = x; waiting = ws }
 joined_looser m n x [] h k = refl
 joined_looser m n x (Opened ∷ ws) h k = refl
-joined_looser m n x (Before l o ∷ ws) h k = ap (λ (b : Bool). if b then joined m (Join o l x) ws else record { value = x; waiting = Before l o ∷ ws }) (below m (level_of o) (omega arith))
+joined_looser m n x (Before l o ∷ ws) h k = ap (λ (b : Bool). if b then joined m (Join o l x) ws else record { value = x; waiting = Before l o ∷ ws }) (lt-leb m (level_of o) (omega arith))
 
 joined_before : (m : ℕ) (x l : Expr) (o : Op) (ws : List Waiting) → m ≤ level_of o → joined m x (Before l o ∷ ws) ≡ joined m (Join o l x) ws
-joined_before m x l o ws h = ap (λ (b : Bool). if b then joined m (Join o l x) ws else record { value = x; waiting = Before l o ∷ ws }) (at_least m (level_of o) h)
+joined_before m x l o ws h = ap (λ (b : Bool). if b then joined m (Join o l x) ws else record { value = x; waiting = Before l o ∷ ws }) (le-leb m (level_of o) h)
 
 -- tokens were read that stand for a tree
 record ReadAs (n : ℕ) (t : Expr) (ws : List Waiting) (tokens : List Token) : Type 0 where

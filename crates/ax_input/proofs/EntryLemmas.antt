@@ -4,6 +4,7 @@ use Rattle.std.proofs.lemmas.List.{append-nil}
 use Rattle.std.proofs.lemmas.Bool.{and_parts}
 use Rattle.std.specs.List.{list_all, AllByRecursion}
 use Rattle.std.specs.Fmt.{signed_decimal}
+use Rattle.ax_machine.proofs.TextLemmas.{lines_text-append}
 use Rattle.ax_base.specs.Words.{words_of}
 use Rattle.ax_base.specs.Pieces.{Cut, cut_of}
 use Rattle.ax_base.specs.Lines.{no_feed}
@@ -26,10 +27,6 @@ out_spelled key values =
 
 pub mark_spelled : (time : ℤ) → spelled (Mark time) ≡ entry_text (entry.Mark (Watermark time))
 mark_spelled time = ap (λ t. 119 ∷ 32 ∷ (t ++ 10 ∷ [])) (append-nil (signed_decimal time))
-
-lines_text-append : (xs ys : List OutLine) → lines_text (xs ++ ys) ≡ lines_text xs ++ lines_text ys
-lines_text-append [] ys = refl
-lines_text-append (x ∷ xs) ys = ap (λ t. spelled x ++ t) (lines_text-append xs ys) ∙ sym (append_assoc (spelled x) (lines_text xs) (lines_text ys))
 
 -- the lines that an entry is
 abbrev lines_in : (e : Entry) → IsPlain e → List OutLine

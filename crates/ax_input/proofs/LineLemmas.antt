@@ -1,7 +1,7 @@
 -- Lines that are written are read back.
 use Rattle.std.proofs.Common.{◌≡◌, refl, ap, ◌∙◌, ℕ, ◌+◌, ◌*◌, ◌^◌, ◌<◌, ◌≤◌, ℤ, pos, negsuc, Bool, true, false, cond, not, ◌&&◌, List, [], ◌∷◌, length, length-append, map, Some, None, arith, nat_le, nat_lt, nat_eq}
 use Rattle.std.proofs.lemmas.List.{length-map}
-use Rattle.std.proofs.lemmas.Bool.{and_parts}
+use Rattle.std.proofs.lemmas.Bool.{and_parts, and_from, ltb-true}
 use Rattle.std.proofs.lemmas.Bool.Decides.{nat_tests}
 use Rattle.std.proofs.lemmas.Fmt.{length_signed_le, length-decimal-le}
 use Rattle.std.specs.List.{list_all}
@@ -54,30 +54,24 @@ lettered_name w e = (and_parts (is_lettered w) (is_none (keyword_of w)) (and_par
 solid_name : (w : Word) → is_name w ≡ true → is_solid w ≡ true
 solid_name w e = solid_lettered w (lettered_name w e)
 
-below : (n : ℕ) → nat_lt n (2 ^ 63) ≡ true → n < 2 ^ 63
-below n e = grind (arith, nat_tests)
-
 solid_count : (n : ℕ) → nat_lt n (2 ^ 63) ≡ true → is_solid (decimal n) ≡ true
-solid_count n e = let small = below n e in solid_decimal n (omega arith)
-
-and_true : (a b : Bool) → a ≡ true → b ≡ true → (a && b) ≡ true
-and_true a b p q = ap (λ t. t && b) p ∙ q
+solid_count n e = let small = ltb-true n (2 ^ 63) e in solid_decimal n (omega arith)
 
 two_solid : (v w : Word) → is_solid v ≡ true → is_solid w ≡ true → list_all is_solid (v ∷ w ∷ []) ≡ true
-two_solid v w p q = and_true (is_solid v) (is_solid w && true) p (and_true (is_solid w) true q refl)
+two_solid v w p q = and_from (is_solid v) (is_solid w && true) p (and_from (is_solid w) true q refl)
 
 one_solid : (w : Word) → is_solid w ≡ true → list_all is_solid (w ∷ []) ≡ true
-one_solid w q = and_true (is_solid w) true q refl
+one_solid w q = and_from (is_solid w) true q refl
 
 place_solid : (key state : Word) (ws : List Word) → is_place key state ≡ true → list_all is_solid ws ≡ true → list_all is_solid (key ∷ state ∷ ws) ≡ true
 place_solid key state ws p q =
     let parts = and_parts (is_key key) (is_name state) p in
-    and_true (is_solid key) (is_solid state && list_all is_solid ws) (solid_key key parts.0) (and_true (is_solid state) (list_all is_solid ws) (solid_name state parts.1) q)
+    and_from (is_solid key) (is_solid state && list_all is_solid ws) (solid_key key parts.0) (and_from (is_solid state) (list_all is_solid ws) (solid_name state parts.1) q)
 
 solid_line : (l : OutLine) → is_line l ≡ true → list_all is_solid (line_words l) ≡ true
 solid_line (Out key values) e =
     let parts = and_parts (is_key key) (is_few (length values) && list_all is_number values) e in
-    and_true (is_solid key) (list_all is_solid (map signed_decimal values)) (solid_key key parts.0) (solid_numbers values (and_parts (is_few (length values)) (list_all is_number values) parts.1).1)
+    and_from (is_solid key) (list_all is_solid (map signed_decimal values)) (solid_key key parts.0) (solid_numbers values (and_parts (is_few (length values)) (list_all is_number values) parts.1).1)
 solid_line (Mark time) e = one_solid (signed_decimal time) (solid_signed time e)
 solid_line (Head id wm) e =
     let parts = and_parts (is_number id) (is_number wm) e in
@@ -103,8 +97,8 @@ solid_event : (e : Event) → is_event e ≡ true → list_all is_solid (event_w
 solid_event (Row key time values) e =
     let parts = and_parts (is_key key && is_number time) (nat_le (length values) 16 && list_all is_number values) e in
     let front = and_parts (is_key key) (is_number time) parts.0 in
-    and_true (is_solid key) (is_solid (signed_decimal time) && list_all is_solid (map signed_decimal values)) (solid_key key front.0)
-    (and_true (is_solid (signed_decimal time)) (list_all is_solid (map signed_decimal values)) (solid_signed time front.1)
+    and_from (is_solid key) (is_solid (signed_decimal time) && list_all is_solid (map signed_decimal values)) (solid_key key front.0)
+    (and_from (is_solid (signed_decimal time)) (list_all is_solid (map signed_decimal values)) (solid_signed time front.1)
     (solid_numbers values (and_parts (nat_le (length values) 16) (list_all is_number values) parts.1).1))
 solid_event (MarkEvent time) e = one_solid (signed_decimal time) (solid_signed time e)
 solid_event (Barrier id) e = one_solid (signed_decimal id) (solid_signed id (and_parts (is_number id) (is_id id) e).0)
@@ -142,7 +136,7 @@ words_read (Timer key time) e =
 words_read (End id count) e =
     let parts = and_parts (is_number id) (nat_lt count (2 ^ 63)) e in
     ap (λ x. end_by (both x (number_of (decimal count)))) (number_of-signed id parts.0)
-    ∙ ap (λ y. end_by (both (Some id) y)) (number_of-decimal count (below count parts.1))
+    ∙ ap (λ y. end_by (both (Some id) y)) (number_of-decimal count (ltb-true count (2 ^ 63) parts.1))
 
 pub line_back : (l : OutLine) → IsLineBack l
 line_back l e = ap out_line_of (words_of-spaced (line_words l) (solid_line l e)) ∙ words_read l e
@@ -175,8 +169,8 @@ event_back (Barrier id) e =
 -- a spelling is one line
 
 length_number : (z : ℤ) → is_number z ≡ true → length (signed_decimal z) ≤ 20
-length_number (pos n) e = let small = below n e in length_signed_le 19 (pos n) (omega arith) (omega arith)
-length_number (negsuc n) e = let small = below n e in length_signed_le 19 (negsuc n) (omega arith) (omega arith)
+length_number (pos n) e = let small = ltb-true n (2 ^ 63) e in length_signed_le 19 (pos n) (omega arith) (omega arith)
+length_number (negsuc n) e = let small = ltb-true n (2 ^ 63) e in length_signed_le 19 (negsuc n) (omega arith) (omega arith)
 
 length_numbers : (ns : List ℤ) → list_all is_number ns ≡ true → length (behind_spaces (map signed_decimal ns)) ≤ 21 * length ns
 length_numbers [] e = omega arith
@@ -197,7 +191,7 @@ length_name : (w : Word) → is_name w ≡ true → length w ≤ 32
 length_name w e = length_lettered w (lettered_name w e)
 
 length_count : (n : ℕ) → nat_lt n (2 ^ 63) ≡ true → length (decimal n) ≤ 20
-length_count n e = let small = below n e in length-decimal-le 20 n (omega arith) (omega arith) (omega arith)
+length_count n e = let small = ltb-true n (2 ^ 63) e in length-decimal-le 20 n (omega arith) (omega arith) (omega arith)
 
 length_one : (w : Word) → length (behind_spaces (w ∷ [])) ≡ length w + 1
 length_one w = omega (arith, length-append w [])

@@ -1,7 +1,7 @@
 -- Words that are spelled are read back.
 use Rattle.std.proofs.Common.{◌≡◌, refl, sym, ap, ◌∙◌, ℕ, suc, ◌^◌, ◌<◌, ℤ, pos, negsuc, neg_ℤ, Bool, true, false, cond, ◌&&◌, List, [], ◌∷◌, ◌++◌, length, map, Option, Some, None, arith, append_assoc, nat_le, nat_lt, nat_eq}
 use Rattle.std.proofs.lemmas.List.{append-nil}
-use Rattle.std.proofs.lemmas.Bool.{and_parts}
+use Rattle.std.proofs.lemmas.Bool.{and_parts, ltb-true}
 use Rattle.std.proofs.lemmas.Bool.Decides.{nat_tests}
 use Rattle.std.proofs.lemmas.Fmt.{digits_decimal, digits_value-decimal, decimal_nonempty}
 use Rattle.std.proofs.lemmas.Str.Parse.{IsDigitsTest, FoldsDigits, IsNumeralModel, numerals_by_fold}
@@ -139,21 +139,18 @@ number_of-decimal n small =
     ∙ unsigned_digits positive n fits
     ∙ ap (λ t. cond t (Some (pos n)) None) lower
 
-below : (n : ℕ) → nat_lt n (2 ^ 63) ≡ true → n < 2 ^ 63
-below n e = grind (arith, nat_tests)
-
 pub number_of-signed : (z : ℤ) → is_number z ≡ true → number_of (signed_decimal z) ≡ Some z
-number_of-signed (pos n) e = number_of-decimal n (below n e)
+number_of-signed (pos n) e = number_of-decimal n (ltb-true n (2 ^ 63) e)
 number_of-signed (negsuc n) e =
-    let small = below n e in
+    let small = ltb-true n (2 ^ 63) e in
     let fits : suc n < 2 ^ 64 = omega arith in
     let lower : nat_le (suc n) (2 ^ 63) ≡ true = grind (arith, nat_tests) in
     unsigned_digits negative (suc n) fits ∙ ap (λ t. cond t (Some (neg_ℤ (pos (suc n)))) None) lower
 
 pub solid_signed : (z : ℤ) → is_number z ≡ true → is_solid (signed_decimal z) ≡ true
-solid_signed (pos n) e = let small = below n e in solid_decimal n (omega arith)
+solid_signed (pos n) e = let small = ltb-true n (2 ^ 63) e in solid_decimal n (omega arith)
 solid_signed (negsuc n) e =
-    let small = below n e in
+    let small = ltb-true n (2 ^ 63) e in
     let fits : suc n < 2 ^ 64 = omega arith in
     digits_ink (decimal (suc n)) (digits_decimal own (suc n) fits)
 

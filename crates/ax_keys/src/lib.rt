@@ -12,3 +12,6 @@ pub mod laws;
 
 pub use groups::{group, index_of_group, range_of_index, spread};
 pub use key::{Key, Keys};
+
+/// How often a key may fire at one watermark.
+pub const MOST_FIRINGS: u32 = 65_536;

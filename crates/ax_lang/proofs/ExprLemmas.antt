@@ -1,7 +1,7 @@
 -- Expressions of lines without fault: what they speak of exists.
 use Rattle.std.proofs.Common.{◌≡◌, ◌∙◌, ℕ, zero, suc, ◌+◌, ◌-◌, ◌≤◌, ◌<◌, ◌^◌, ℤ, pos, neg_ℤ, List, [], ◌∷◌, map, length, refl, sym, ap, subst, arith, Bool, true, false, not, ◌&&◌, ◌||◌, nat_le, nat_lt, ◌==◌, Option, Some, None, if◌then◌else◌, is_some}
 use Rattle.std.specs.List.{list_all, list_any}
-use Rattle.std.proofs.lemmas.Bool.{and_parts, and_from, leb-true, le-leb, lt-ltb, ltb-true, true≢false, false≢true}
+use Rattle.std.proofs.lemmas.Bool.{and_parts, and_from, leb-true, le-leb, lt-ltb, ltb-true, true≢false, false≢true, or_parts, or_left, or_right, not-false, not-true, not_from_false}
 use Rattle.std.proofs.lemmas.List.{length-map}
 use lib.Chars.{codes}
 use Rattle.ax_base.specs.Numbers.{value_from, are_digits, positive, negative, unsigned_by, number_of, is_number}
@@ -30,18 +30,6 @@ use Rattle.ax_lang.specs.Rows.{Statement, Acts, Asks, index_of, place_or, place_
 
 -- tests
 
-or_parts : (a b : Bool) → (a || b) ≡ false → (a ≡ false) × (b ≡ false)
-or_parts true b h = absurd (true≢false h)
-or_parts false b h = (refl, h)
-
-or_left : (a b : Bool) → a ≡ true → (a || b) ≡ true
-or_left true b h = refl
-or_left false b h = absurd (false≢true h)
-
-or_right : (a b : Bool) → b ≡ true → (a || b) ≡ true
-or_right true b h = refl
-or_right false b h = h
-
 -- the second, where the first is not
 or_second : (a b : Bool) → a ≡ false → (a || b) ≡ true → b ≡ true
 or_second true b f h = absurd (true≢false f)
@@ -54,18 +42,6 @@ or_first false b f h = absurd (true≢false (sym h ∙ f))
 and_second : (a b : Bool) → a ≡ true → (a && b) ≡ false → b ≡ false
 and_second true b t h = h
 and_second false b t h = absurd (false≢true t)
-
-not_no : (b : Bool) → not b ≡ false → b ≡ true
-not_no true h = refl
-not_no false h = absurd (true≢false h)
-
-not_yes : (b : Bool) → not b ≡ true → b ≡ false
-not_yes true h = absurd (false≢true h)
-not_yes false h = refl
-
-not_from : (b : Bool) → b ≡ false → not b ≡ true
-not_from true h = absurd (true≢false h)
-not_from false h = refl
 
 -- trees of tokens whose operands fit
 
@@ -232,7 +208,7 @@ up_to n (Some m) h = leb-true n m h
 value_known : (t : Tables) (w : Word) → is_value_word w ≡ true → is_unknown_value t w ≡ false → (t.timer ≡ false) × (is_up_to (field_number w) t.fields ≡ true)
 value_known t w v h =
     let a = or_parts t.timer (not (is_up_to (field_number w) t.fields)) (and_second (is_value_word w) _ v h) in
-    (a.0, not_no (is_up_to (field_number w) t.fields) a.1)
+    (a.0, not-false (is_up_to (field_number w) t.fields) a.1)
 
 field_fits : (t : Tables) (w : Word) (n : ℕ) → is_unknown_value t w ≡ false → field_number w ≡ Some n → nat_lt (n - 1) (values_of t) ≡ true
 field_fits t w n h e =
@@ -281,14 +257,14 @@ operand_name t w o u e m f =
 atom_known : (t : Tables) (names : List Word) (n : ℕ) (w : Word) → is_operand w ≡ true → is_known t w ≡ true → (mem w t.locals ≡ true → mem w names ≡ true) → length names ≤ n → atom_fits (values_of t) n (atom_of names w) ≡ true
 atom_known t names n w o known more few =
     let parts = and_parts (not (is_unknown t w)) (not (is_state t w)) known in
-    let u = or_parts (is_unknown_name t w) (is_unknown_value t w) (not_yes (is_unknown t w) parts.0) in
+    let u = or_parts (is_unknown_name t w) (is_unknown_value t w) (not-true (is_unknown t w) parts.0) in
     let f : ℕ = values_of t in
     let name : Atom = atom.Name (place_in names w) in
     number_case f n (number_of w) _ (number_fits w) (λ e.
     moment_case f n (keyword_of w) _ (λ m.
     field_case f n (field_number w) name (λ i. field_fits t w i u.1) (λ g.
     let named = operand_name t w o u.1 e m g in
-    let there = or_second (is_state t w) (is_local t w) (not_yes (is_state t w) parts.1) (not_no (is_state t w || is_local t w) (and_second (is_name w) _ named u.0)) in
+    let there = or_second (is_state t w) (is_local t w) (not-true (is_state t w) parts.1) (not-false (is_state t w || is_local t w) (and_second (is_name w) _ named u.0)) in
     let low : place_in names w < length names = place_fits names w (more there) in
     lt-ltb (place_in names w) n (omega arith))))
 
@@ -330,7 +306,7 @@ all_known t [] u s = refl
 all_known t (w ∷ ws) u s =
     let a = or_parts (is_unknown t w) (list_any (is_unknown t) ws) u in
     let b = or_parts (is_state t w) (list_any (is_state t) ws) s in
-    and_from (is_known t w) (list_all (is_known t) ws) (and_from (not (is_unknown t w)) (not (is_state t w)) (not_from (is_unknown t w) a.0) (not_from (is_state t w) b.0)) (all_known t ws a.1 b.1)
+    and_from (is_known t w) (list_all (is_known t) ws) (and_from (not (is_unknown t w)) (not (is_state t w)) (not_from_false (is_unknown t w) a.0) (not_from_false (is_state t w) b.0)) (all_known t ws a.1 b.1)
 
 -- expressions with commas between them
 

@@ -2,7 +2,7 @@
 use Rattle.std.proofs.Common.{◌≡◌, ◌∙◌, ℕ, zero, suc, ◌+◌, ◌≤◌, ◌<◌, List, [], ◌∷◌, ◌++◌, map, length, length-append, refl, sym, ap, subst, arith, max, Bool, true, false, not, ◌&&◌, ◌||◌, nat_le, nat_lt, ◌==◌, slice_index_or, Option, Some, None, if◌then◌else◌, is_some}
 use Rattle.std.proofs.lemmas.Option.{none-some}
 use Rattle.std.specs.List.{list_all, list_any}
-use Rattle.std.proofs.lemmas.Bool.{and_parts, and_from, leb-false, lt-ltb, eq-eqb, true≢false, false≢true}
+use Rattle.std.proofs.lemmas.Bool.{and_parts, and_from, leb-false, lt-ltb, eq-eqb, true≢false, false≢true, not-true, not-false, or_parts, or_right}
 use Rattle.std.proofs.lemmas.List.{append-nil, length-map, map-append}
 use Rattle.std.proofs.lemmas.List.Folds.{list_all-append}
 use Rattle.ax_text.specs.declared.vocabulary.Kind.{Kind}
@@ -31,18 +31,6 @@ if_none : (b : Bool) (k : ℕ) (r : Option ℕ) → (if b then Some k else r) �
 if_none true k r h = absurd (none-some k (sym h))
 if_none false k r h = (refl, h)
 
-not_true : (b : Bool) → not b ≡ true → b ≡ false
-not_true true h = absurd (false≢true h)
-not_true false h = refl
-
-not_false : (b : Bool) → not b ≡ false → b ≡ true
-not_false true h = refl
-not_false false h = absurd (true≢false h)
-
-or_false : (a b : Bool) → (a || b) ≡ false → (a ≡ false) × (b ≡ false)
-or_false true b h = absurd (true≢false h)
-or_false false b h = (refl, h)
-
 abbrev NoFault : Tables → Shape → Type 0
 NoFault t s = record {
   stands : may_stand t s ≡ true;
@@ -62,15 +50,11 @@ no_fault t s h =
     let d = if_none (is_twice t s) 3 _ c.1 in
     let e = if_none (has_unknown t s) 2 _ d.1 in
     let f = if_none (has_wrong_kind t s) 4 None e.1 in
-    record { stands = not_false (may_stand t s) a.0; built = not_false (is_built s) b.0; few = c.0; once = d.0; known = e.0; kind = f.0 }
+    record { stands = not-false (may_stand t s) a.0; built = not-false (is_built s) b.0; few = c.0; once = d.0; known = e.0; kind = f.0 }
 
 same_refl : (w : Word) → same_word w w ≡ true
 same_refl [] = refl
 same_refl (x ∷ xs) = and_from (x == x) (same_word xs xs) (eq-eqb x x refl) (same_refl xs)
-
-or_right : (a b : Bool) → b ≡ true → (a || b) ≡ true
-or_right true b h = refl
-or_right false b h = h
 
 mem_last : (w : Word) (ws : List Word) → mem w (ws ++ w ∷ []) ≡ true
 mem_last w [] = ap (λ (b : Bool). b || false) (same_refl w)
@@ -142,13 +126,13 @@ distinct_last : (ws : List Word) (w : Word) → are_distinct ws ≡ true → mem
 distinct_last [] w h g = refl
 distinct_last (x ∷ xs) w h g =
     let a = and_parts (not (mem x xs)) (are_distinct xs) h in
-    let b = or_false (same_word x w) (mem w xs) g in
-    and_from (not (mem x (xs ++ w ∷ []))) (are_distinct (xs ++ w ∷ [])) (ap not (apart xs (not_true (mem x xs) a.0) (same_not x w b.0))) (distinct_last xs w a.1 b.1)
+    let b = or_parts (same_word x w) (mem w xs) g in
+    and_from (not (mem x (xs ++ w ∷ []))) (are_distinct (xs ++ w ∷ [])) (ap not (apart xs (not-true (mem x xs) a.0) (same_not x w b.0))) (distinct_last xs w a.1 b.1)
   where
     apart : (ys : List Word) → mem x ys ≡ false → same_word w x ≡ false → mem x (ys ++ w ∷ []) ≡ false
     apart [] m e = ap (λ (b : Bool). b || false) e
     apart (y ∷ ys) m e =
-        let c = or_false (same_word y x) (mem x ys) m in
+        let c = or_parts (same_word y x) (mem x ys) m in
         ap (λ (b : Bool). b || mem x (ys ++ w ∷ [])) c.0 ∙ apart ys c.1 e
 
 all_with : (p : Statement → Bool) (rows : List Statement) (r : Statement) → list_all p rows ≡ true → p r ≡ true → list_all p (rows ++ r ∷ []) ≡ true
@@ -195,7 +179,7 @@ sound_input t rows n h i f =
 sound_state : (t : Tables) (rows : HandlerRows) (name : Word) (kind : KindWord) → Sound t rows → is_name name ≡ true → NoFault t (shape.State name kind) → Sound (after (shape.State name kind) t) rows
 unfolding after is_too_many is_twice may_stand most_locals
 sound_state t rows name kind h w f =
-    let before : t.row ≡ false = not_true t.row (and_parts (not t.inside && is_some t.fields) (not t.row) f.stands).1 in
+    let before : t.row ≡ false = not-true t.row (and_parts (not t.inside && is_some t.fields) (not t.row) f.stands).1 in
     let e : rows ≡ no_rows = h.before before in
     let low : length t.states < 64 = leb-false 64 (length t.states) f.few in
     let ds = (after (shape.State name kind) t).states in
@@ -309,19 +293,19 @@ few_locals t h = let low : max t.earlier (length t.locals) ≤ 256 = h in omega 
 reads_known : (t : Tables) (s : Shape) → has_unknown t s ≡ false → has_wrong_kind t s ≡ false → list_all (is_known t) (reads_of s) ≡ true
 unfolding has_unknown has_wrong_kind
 reads_known t s u k =
-    all_known t (reads_of s) (or_false (list_any (is_unknown t) (reads_of s)) _ u).0 (or_false (list_any (is_state t) (reads_of s)) _ k).0
+    all_known t (reads_of s) (or_parts (list_any (is_unknown t) (reads_of s)) _ u).0 (or_parts (list_any (is_state t) (reads_of s)) _ k).0
 
 sound_get : (t : Tables) (rows : HandlerRows) (name state : Word) (missing : List Word) → Sound t rows → is_expr missing ≡ true → NoFault t (shape.Get name state missing)
     → Sound (after (shape.Get name state missing) t) (joined rows (rows_by (after (shape.Get name state missing) t) (shape.Get name state missing)))
 unfolding after row_of is_too_many may_stand has_wrong_kind
 sound_get t rows name state missing h w f =
-    let kinds_apart = or_false (is_state t name) (not (is_state t state)) (or_false (list_any (is_state t) missing) _ f.kind).1 in
-    let room = (or_false (nat_le 10000 t.statements) _ (or_false _ (has_long_expr (shape.Get name state missing)) f.few).0).1 in
+    let kinds_apart = or_parts (is_state t name) (not (is_state t state)) (or_parts (list_any (is_state t) missing) _ f.kind).1 in
+    let room = (or_parts (nat_le 10000 t.statements) _ (or_parts _ (has_long_expr (shape.Get name state missing)) f.few).0).1 in
     let locals = with_word (Some name) t.locals in
     let most = max t.earlier (length locals) in
     let here : place_in locals name < length locals = place_fits locals name (with_mem name t.locals) in
     let low : place_in locals name < max t.earlier (length locals) = omega arith in
-    let there = declared_fits t.states state h.values (not_false (is_state t state) kinds_apart.1) in
+    let there = declared_fits t.states state h.values (not-false (is_state t state) kinds_apart.1) in
     let default = expr_known t locals most missing w (reads_known t (shape.Get name state missing) f.known f.kind) (with_keeps name t.locals) (omega arith) in
     sound_more t rows locals (t.statements + 1) _ h f.stands (with_grows name t.locals) (with_few t name (few_locals t h.locals) room kinds_apart.0)
     (and_from (nat_lt (place_in locals name) most && has_kind (kinds t.states) (place_in (state_names t.states) state) kind.Value) (expr_fits (values_of t) most (tree_in locals missing))
@@ -331,9 +315,9 @@ sound_put : (t : Tables) (rows : HandlerRows) (state : Word) (values : List Word
     → Sound (after (shape.Put state values) t) (joined rows (rows_by (after (shape.Put state values) t) (shape.Put state values)))
 unfolding after row_of may_stand is_built has_wrong_kind
 sound_put t rows state values h w f =
-    let there = declared_fits t.states state h.values (not_false (is_state t state) (or_false (list_any (is_state t) values) (not (is_state t state)) f.kind).1) in
+    let there = declared_fits t.states state h.values (not-false (is_state t state) (or_parts (list_any (is_state t) values) (not (is_state t state)) f.kind).1) in
     let most = max t.earlier (length t.locals) in
-    let single = one_expr values w (not_true (list_any is_comma values) (and_parts (list_all is_built_word values) (not (list_any is_comma values)) f.built).1) in
+    let single = one_expr values w (not-true (list_any is_comma values) (and_parts (list_all is_built_word values) (not (list_any is_comma values)) f.built).1) in
     let number = expr_known t t.locals most values single (reads_known t (shape.Put state values) f.known f.kind) (same_names t.locals) (omega arith) in
     sound_more t rows t.locals (t.statements + 1) _ h f.stands (omega arith) (few_locals t h.locals)
     (and_from (has_kind (kinds t.states) (place_in (state_names t.states) state) kind.Value) (expr_fits (values_of t) most (tree_in t.locals values)) there number)
@@ -395,9 +379,9 @@ few_in t (shape.Input a) f h = absurd (false≢true h)
 few_in t (shape.State a b) f h = absurd (false≢true h)
 few_in t shape.OnRow f h = absurd (false≢true h)
 few_in t shape.End f h = absurd (false≢true h)
-few_in t (shape.Get a b c) f h = leb-false 10000 t.statements (or_false (nat_le 10000 t.statements) _ (or_false _ (has_long_expr (shape.Get a b c)) f).0).0
-few_in t (shape.Put a b) f h = leb-false 10000 t.statements (or_false (nat_le 10000 t.statements) _ (or_false _ (has_long_expr (shape.Put a b)) f).0).0
-few_in t (shape.Emit a) f h = leb-false 10000 t.statements (or_false (nat_le 10000 t.statements) _ (or_false _ (has_long_expr (shape.Emit a)) f).0).0
+few_in t (shape.Get a b c) f h = leb-false 10000 t.statements (or_parts (nat_le 10000 t.statements) _ (or_parts _ (has_long_expr (shape.Get a b c)) f).0).0
+few_in t (shape.Put a b) f h = leb-false 10000 t.statements (or_parts (nat_le 10000 t.statements) _ (or_parts _ (has_long_expr (shape.Put a b)) f).0).0
+few_in t (shape.Emit a) f h = leb-false 10000 t.statements (or_parts (nat_le 10000 t.statements) _ (or_parts _ (has_long_expr (shape.Emit a)) f).0).0
 few_in t shape.OnTimer f h = absurd (false≢true h)
 few_in t (shape.Let a b) f h = absurd (false≢true h)
 few_in t (shape.GetAt a b c d) f h = absurd (false≢true h)
@@ -412,8 +396,8 @@ few_in t (shape.Each a b) f h = absurd (false≢true h)
 few_in t (shape.EachPair a b c) f h = absurd (false≢true h)
 few_in t shape.Both f h = absurd (false≢true h)
 few_in t shape.With f h = absurd (false≢true h)
-few_in t (shape.Timer a) f h = leb-false 10000 t.statements (or_false (nat_le 10000 t.statements) _ (or_false _ (has_long_expr (shape.Timer a)) f).0).0
-few_in t (shape.Untimer a) f h = leb-false 10000 t.statements (or_false (nat_le 10000 t.statements) _ (or_false _ (has_long_expr (shape.Untimer a)) f).0).0
+few_in t (shape.Timer a) f h = leb-false 10000 t.statements (or_parts (nat_le 10000 t.statements) _ (or_parts _ (has_long_expr (shape.Timer a)) f).0).0
+few_in t (shape.Untimer a) f h = leb-false 10000 t.statements (or_parts (nat_le 10000 t.statements) _ (or_parts _ (has_long_expr (shape.Untimer a)) f).0).0
 
 pub few_statements : (t : Tables) (s : Shape) → fault_by t s ≡ None → is_statement s ≡ true → t.statements < 10000
 few_statements t s f h = let n = no_fault t s f in few_in t s n.few h

@@ -4,6 +4,7 @@ use Rattle.std.specs.Str.{bytes_eq}
 use Rattle.std.specs.Ordering.{int_cmp, ordering_then, is_lt}
 use Rattle.std.specs.declared.cmp.Ordering.{Ordering}
 use Rattle.ax_keys.specs.Keys.{key_cmp}
+use Rattle.ax_keys.specs.declared.TheConstants.{MOST_FIRINGS}
 use Rattle.ax_text.specs.KeyStates.{KeyState}
 use Rattle.ax_machine.specs.Entries.{Key}
 
@@ -18,17 +19,20 @@ due_cmp a b = ordering_then (int_cmp a.time b.time) (key_cmp a.key b.key)
 
 -- how often a key may fire at one watermark
 unfoldable pub most_firings : ℕ
-most_firings = 65536
+most_firings = MOST_FIRINGS
 
 -- the first of a key's times, where it is at or below the watermark
 abbrev pub due_of : ℤ → Key → List ℤ → Option Due
 due_of w k [] = None
 due_of w k (t ∷ ts) = if int_le t w then Some (record { time = t; key = k }) else None
 
--- the timer with which a key may fire, where it may fire so many times more
+-- the timer with which a key with these times may fire, where it may fire so many times more
+abbrev pub timer_of : ℤ → ℕ → Key → List ℤ → Option Due
+timer_of w zero k times = None
+timer_of w (suc n) k times = due_of w k times
+
 abbrev pub candidate : ℤ → ℕ → Key → KeyState → Option Due
-candidate w zero k s = None
-candidate w (suc n) k s = due_of w k s.times
+candidate w n k s = timer_of w n k s.times
 
 abbrev pub earlier : Option Due → Option Due → Option Due
 earlier None b = b

@@ -1,5 +1,5 @@
 -- The agenda of a watermark: the first timer of each key that may fire, with the firings left of the key.
-use Rattle.std.specs.Prelude.{◌≡◌, ◌<◌, ◌↔◌, ℕ, zero, suc, ℤ, List, false, Option, None, Some, if◌then◌else◌}
+use Rattle.std.specs.Prelude.{◌≡◌, ◌<◌, ◌↔◌, ℕ, ℤ, List, false, Option, None, Some, if◌then◌else◌}
 use Rattle.std.specs.List.{sum_by}
 use Rattle.std.specs.Map.{lookup, values_of}
 use Rattle.std.specs.BTreeMap.{is_at}
@@ -8,18 +8,14 @@ use Rattle.std.specs.Ordering.{is_lt}
 use Rattle.std.specs.declared.cmp.Ordering.{Ordering}
 use Rattle.ax_text.specs.Times.{least_time}
 use Rattle.ax_machine.specs.Entries.{Key}
-use Rattle.ax_machine.specs.Firings.{due_of, due_cmp}
+use Rattle.ax_machine.specs.Firings.{due_cmp}
+pub use Rattle.ax_machine.specs.Firings.{timer_of}
 use Rattle.ax_machine.specs.Firings as machine
 use Rattle.ax_plain.specs.declared.agenda.Due.{Due}
 
 -- a due timer, as the plain thread speaks of it
 abbrev pub due : Due → machine.Due
 due d = record { time = d.time; key = d.key }
-
--- the first timer of a key with these times, where the key may fire so many times more and the timer is due
-abbrev pub timer_of : ℤ → ℕ → Key → List ℤ → Option machine.Due
-timer_of w zero key times = None
-timer_of w (suc n) key times = due_of w key times
 
 -- due timers compared by time, and then by key
 abbrev pub order : Due → Due → Ordering

@@ -5,14 +5,11 @@ ghost use Rattle.ax_time.specs.Timers.{times_of};
 ghost use Rattle.ax_plain.specs.Agenda.{firings_left, IsFirstDue, Lists, NoneFires, Puts, without};
 
 use ax_base::NoMemory;
-use ax_keys::Key;
+use ax_keys::{Key, MOST_FIRINGS};
 use ax_time::Timers;
 use std::alloc::Global;
 use std::collections::BTreeMap;
 use std::marker::Model;
-
-/// How often a key may fire at one watermark.
-const MOST_FIRINGS: u32 = 65_536;
 
 /// A timer that is due, and its key. Ordered by time, and then by the key's bytes.
 #[derive(Debug, Drop, PartialEq, Eq, PartialOrd, Ord)]

@@ -1,16 +1,13 @@
 -- Line behind line.
 use Rattle.std.proofs.Common.{◌≡◌, refl, sym, ap, ◌∙◌, ℕ, ◌+◌, ◌<◌, ◌≤◌, List, [], ◌∷◌, ◌++◌, length, length-append, append_assoc, arith}
 use Rattle.std.proofs.lemmas.List.{append-nil}
+use Rattle.ax_machine.proofs.TextLemmas.{lines_text-append}
 use Rattle.ax_machine.specs.OutLines.{OutLine, line_of, spelled, lines_text}
 use Rattle.ax_snapshot.specs.Added.{Put, Adds}
 
 -- behind a line there is room for one more in the count
 pub has_room : (text : List ℕ) (l : OutLine) (count : ℕ) → count ≤ length text → count < length (text ++ spelled l)
 has_room text l count h = omega (arith, length-append text (spelled l), length-append (line_of l) (10 ∷ []))
-
-pub lines_text-append : (xs ys : List OutLine) → lines_text (xs ++ ys) ≡ lines_text xs ++ lines_text ys
-lines_text-append [] ys = refl
-lines_text-append (x ∷ xs) ys = ap (λ t. spelled x ++ t) (lines_text-append xs ys) ∙ sym (append_assoc (spelled x) (lines_text xs) (lines_text ys))
 
 -- of these lines, put behind those of a block, the last ones are left
 pub record GoesOn (start now : Put) (whole rest : List OutLine) : Type 0 where

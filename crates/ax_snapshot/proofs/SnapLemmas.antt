@@ -3,6 +3,7 @@ use denote.Ref.{Bor}
 use Rattle.std.proofs.Common.{◌≡◌, refl, sym, ap, subst, ◌∙◌, ℕ, ℤ, arith, List, [], ◌∷◌, ◌++◌, map, length, append_assoc}
 use Rattle.std.specs.List.{All, AllByRecursion, Contains}
 use Rattle.std.specs.Map.{values_of}
+use Rattle.ax_machine.proofs.TextLemmas.{lines_text-append}
 use Rattle.ax_text.specs.declared.vocabulary.Kind.{Kind}
 use Rattle.ax_text.specs.Programs.{State}
 use Rattle.ax_state.specs.KeyCells.{cell_kinds}
@@ -12,7 +13,7 @@ use Rattle.ax_snapshot.specs.Snaps.{shown_part}
 use Rattle.ax_snapshot.specs.Places.{placing}
 use Rattle.ax_snapshot.specs.declared.snapshot.KeySnap.{KeySnap}
 use Rattle.ax_snapshot.specs.Added.{Put, Adds}
-use Rattle.ax_snapshot.proofs.AddedLemmas.{GoesOn, goes_step, goes_end, lines_text-append}
+use Rattle.ax_snapshot.proofs.AddedLemmas.{GoesOn, goes_step, goes_end}
 use Rattle.ax_snapshot.proofs.PlaceLemmas.{Placing}
 use Rattle.std.proofs.lemmas.List.{append-nil}
 

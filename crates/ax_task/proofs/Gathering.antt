@@ -138,7 +138,7 @@ keeps_nil None b room e k = tt
 keeps_nil (Some xs) None room e k = absurd k
 keeps_nil (Some xs) (Some ys) room e k = sym (append-nil ys) ∙ ap (λ r. ys ++ r) (sym e) ∙ k
 
-keeps_refl : (a : Option (List ℕ)) → Keeps a a
+pub keeps_refl : (a : Option (List ℕ)) → Keeps a a
 keeps_refl None = tt
 keeps_refl (Some xs) = refl
 

@@ -13,7 +13,7 @@ use Rattle.ax_machine.specs.Events.{Event}
 use Rattle.ax_machine.specs.Sync.{Plain, plain_step, plain_start, sync, silent, behind}
 use Rattle.ax_machine.specs.Lawful.{cuts, markers, Lawful, LawfulSoFar, LawfulSoFarFor}
 use Rattle.ax_machine.proofs.LawfulLemmas.{lawful_itself}
-use Rattle.ax_machine.proofs.FrontLemmas.{lawful_so_far_front}
+use Rattle.ax_machine.proofs.FrontLemmas.{lawful_so_far_front, whole_so_far}
 use Rattle.ax_machine.proofs.StepLemmas.{step_behind, steps_append, text_of-append}
 use Rattle.ax_task.specs.Parse.{Stream, Ending, Clean, Fault, with_event, ends}
 use Rattle.ax_task.specs.Clause.{Holds, WritesLawful, WritesPart, StreamEnds}
@@ -44,18 +44,10 @@ so_far_itself m serial p done =
     subst P (append-nil all) (lawful_so_far_front serial all [])
 
 -- a list that is lawful is lawful so far
-lawful_so_far : (serial : Bool) (written plain : List Entry) → Lawful serial written plain → LawfulSoFar serial written plain
-lawful_so_far serial written plain h = record {
-  lines = λ k. ([], sym (h.lines k) ∙ sym (append-nil (lines_of k written)));
-  markers = ([], sym h.markers ∙ sym (append-nil (markers (cuts written))));
-  has_all = h.has_all;
-  has_no_more = h.has_no_more;
-}
-
 -- what was written whole, written in part
 pub wrote_some : (m : ℕ) (serial : Bool) (p : Program) (done : List Event) (h0 h1 h2 : Option (List ℕ))
     → ((text : List ℕ) → Appends h0 h1 text → AppendsSome h0 h2 text) → WritesLawful m serial p done (holds h0 h1) → WritesPart m serial p done (holds h0 h2)
-wrote_some m serial p done h0 h1 h2 part w = (w.0, lawful_so_far serial w.0 (sync m p done).entries w.1, part (text_of w.0) w.2)
+wrote_some m serial p done h0 h1 h2 part w = (w.0, whole_so_far serial w.0 (sync m p done).entries w.1, part (text_of w.0) w.2)
 
 none_passed : (F : List ℕ → Stream) (held : List ℕ) (l : Option (List ℕ)) → Told l l (λ a b. Goes F (λ x. in_front [] (F x)) (feed held a) (feed held b))
 none_passed F held None = tt

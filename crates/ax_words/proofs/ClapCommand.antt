@@ -14,7 +14,7 @@ use Rattle.clap.specs.declared.builder.value_parser.Reading.TheVariants as readi
 use Rattle.clap.proofs.WalkLemmas.{find-map}
 use Rattle.ax_words.specs.Words.{Spelling, Given, value_of, given_by}
 use Rattle.ax_words.specs.Command.{app_for}
-use Rattle.ax_words.proofs.ClapReads.{shape_for, row, cooked, filled_all, agrees, Agrees, faults, rows_left, at, no_row}
+use Rattle.ax_words.proofs.ClapReads.{shape_for, row, cooked, filled_all, agrees, Agrees, faults, rows_left, at, no_row, no_more}
 use Rattle.clap.specs.Walk.{idle}
 
 built_app : (t : List Spelling) → built (app_for t) ≡ record { top = shape_for t; subs = [] }
@@ -119,10 +119,6 @@ level_is : (t : List Spelling) (words : List Text) (stop : Option (Text × List 
     ≡ level_fault (shape_for t) [] nothing_held words false []
 level_is t words None = refl
 level_is t words (Some p) = refl
-
-no_more : (ks : Kinds) → or_else ks [] ≡ ks
-no_more [] = refl
-no_more (k ∷ ks) = refl
 
 pub fault_is : (t : List Spelling) (words : List Text) → fault_of (app_for t) words ≡ faults t (at idle [] None) words
 fault_is t words =

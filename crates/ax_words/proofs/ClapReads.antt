@@ -141,7 +141,7 @@ or_else_more : (a b d : Kinds) → or_else (or_else a b) d ≡ or_else a (or_els
 or_else_more [] b d = refl
 or_else_more (k ∷ ks) b d = refl
 
-no_more : (ks : Kinds) → or_else ks [] ≡ ks
+pub no_more : (ks : Kinds) → or_else ks [] ≡ ks
 no_more [] = refl
 no_more (k ∷ ks) = refl
 

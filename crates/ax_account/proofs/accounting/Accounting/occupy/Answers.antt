@@ -2,12 +2,12 @@ use Rattle.std.proofs.Common.{◌≡◌, ◌∙◌, refl, subst, sym, true, fals
 use Rattle.std.specs.Prelude.{unwrap_or}
 use Rattle.std.specs.Option.{is_some}
 use Rattle.std.specs.Map.{lookup}
+use Rattle.std.proofs.lemmas.Bool.{cond-false}
 use Rattle.ax_account.specs.declared.part.Occupied.{Occupied}
 use Rattle.ax_account.specs.declared.part.Occupied.TheVariants.{Owner, Waits}
 use Rattle.ax_account.specs.Parts.{Part, free, is_free}
 use Rattle.ax_account.specs.Queues.{same_key}
 use Rattle.ax_account.specs.Accounts.{Accounts, Changes, part_of, occupied, answer_to}
-use Rattle.ax_account.proofs.QueueLemmas.{at_false}
 use Rattle.ax_account.proofs.AccountLemmas.{changes, sound_same, sets_occupied, sets_owned, not_free, idle_occupied}
 use Rattle.ax_account.proofs.accounting.Accounting.occupy.Goals as goal
 
@@ -28,7 +28,7 @@ returns-then-contains_key-clause-answer c =
     let es = c.self.inside.entries.entries in
     let there : is_some (lookup (same_key key) es) ≡ true = sym c.contains_key.ensures ∙ c.if-contains_key.true in
     subst (λ (v : Accounts). ◌≡◌ {A = Occupied} Waits (answer_to (part_of v key))) c.self.view_is
-    (sym (at_false (is_free (unwrap_or (lookup (same_key key) es) free)) Owner Waits (not_free es c.self.inside.idle.keys c.self.invariant key there)))
+    (sym (cond-false (is_free (unwrap_or (lookup (same_key key) es) free)) Owner Waits (not_free es c.self.inside.idle.keys c.self.invariant key there)))
 
 pub returns-then-contains_key-clause-part : goal.returns-then-contains_key-clause-part
 returns-then-contains_key-clause-part c =

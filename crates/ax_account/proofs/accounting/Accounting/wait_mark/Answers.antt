@@ -3,10 +3,11 @@ use Rattle.std.specs.Prelude.{unwrap_or, ◌++◌, ◌∷◌, []}
 use Rattle.std.specs.Option.{is_some, option_map}
 use Rattle.std.specs.Map.{lookup}
 use Rattle.std.proofs.lemmas.Int.{to_z-of_z}
+use Rattle.std.proofs.lemmas.Bool.{cond-false}
 use Rattle.ax_account.specs.Parts.{Part, free, is_free, waits, may_idle}
 use Rattle.ax_account.specs.Queues.{same_key, without}
 use Rattle.ax_account.specs.Accounts.{Accounts, Changes, Sets, part_of, mark, idle_with}
-use Rattle.ax_account.proofs.QueueLemmas.{at_false, without_pushed}
+use Rattle.ax_account.proofs.QueueLemmas.{without_pushed}
 use Rattle.ax_account.proofs.AccountLemmas.{changes, sound_same, sound_pushed, sound_undone, same_accounts, sets_waits, sets_first, not_free, not_idle, part_free, may_idle_waits}
 use Rattle.ax_account.proofs.accounting.Accounting.wait_mark.Goals as goal
 
@@ -40,7 +41,7 @@ returns-then-contains_key-clause-idle c =
     let idle = c.self.inside.idle.keys in
     let there : is_some (lookup (same_key key) es) ≡ true = sym c.contains_key.ensures ∙ c.if-contains_key.true in
     subst (λ (v : Accounts). idle ≡ idle_with key (part_of v key) v.idle) c.self.view_is
-    (sym (at_false (is_free (unwrap_or (lookup (same_key key) es) free)) (idle ++ key ∷ []) idle (not_free es idle c.self.invariant key there)))
+    (sym (cond-false (is_free (unwrap_or (lookup (same_key key) es) free)) (idle ++ key ∷ []) idle (not_free es idle c.self.invariant key there)))
 
 pub push-requires : goal.push-requires
 push-requires c = not_idle c.self.inside.entries.entries c.self.inside.idle.keys c.self.invariant c.args.key.now (sym c.contains_key.ensures ∙ c.if-contains_key.false)
