@@ -5,3 +5,4 @@ pub mod LiveLemmas
 pub mod MergeLemmas
 pub mod PrefixLemmas
 pub mod SearchLemmas
+pub mod TieLemmas

@@ -1,6 +1,7 @@
 //! What became of a key.
 ghost use Rattle.std.specs.Prelude.{◌≡◌, IfOk};
 
+use crate::key::Key;
 use ax_base::{Bytes, Duplicate, NoMemory};
 use std::alloc::Global;
 
@@ -12,12 +13,12 @@ pub(crate) enum Change {
 }
 
 /// A key and what became of it.
-pub(crate) type Entry = (Bytes, Change);
+pub(crate) type Entry = (Key, Change);
 
 impl Duplicate for Change {
     fn copy(&self, alloc: Global) -> Result<Change, NoMemory> {
         match self {
-            Change::Put(value) => Ok(Change::Put(value.copy(alloc)?)),
+            Change::Put(value) => Ok(Change::Put(Bytes::from_slice(alloc, value.as_slice())?)),
             Change::Delete => Ok(Change::Delete),
         }
     }

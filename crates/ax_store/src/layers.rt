@@ -6,6 +6,7 @@ ghost use Rattle.ax_store.specs.Entries.{entry_at, or_below};
 ghost use Rattle.ax_store.specs.Layers.{content_of, layers_of, merged_first, newest_of};
 
 use crate::change::{Change, Entry};
+use crate::key::Sought;
 use crate::memtable::Memtable;
 use crate::run::Run;
 use ax_base::NoMemory;
@@ -38,7 +39,7 @@ impl Layers {
         if let Some(change) = self.memtable.get(key) {
             return Some(change);
         }
-        newest_in(&self.runs, key)
+        newest_in(&self.runs, &Sought::new(key))
     }
 
     // The newest entries of the keys that begin with a prefix.
@@ -164,7 +165,7 @@ fn merge_parts(alloc: Global, newest: Run, runs: &[Run], prefix: &[u8]) -> Resul
 }
 
 // The newest entry of a key in runs.
-fn newest_in<'a>(runs: &'a [Run], key: &[u8]) -> Option<&'a Change>
+fn newest_in<'a>(runs: &'a [Run], key: &Sought<'_>) -> Option<&'a Change>
     ensures { option_map (λ c. c.now) result ≡ newest_of runs.entry.now key.now }
 {
     for run in runs {

@@ -10,6 +10,7 @@
 
 pub mod cell;
 mod change;
+mod key;
 mod layers;
 mod memtable;
 mod merge;

@@ -8,6 +8,7 @@ ghost use Rattle.ax_store.specs.Entries.{deletes, entry_at, IsRising, is_before,
 
 use crate::cell::{Cell, Cells};
 use crate::change::{Change, Entry};
+use crate::key::{Key, Sought};
 use crate::memtable::Memtable;
 use crate::merge::merge_into;
 use ax_base::{Bytes, Duplicate, ListOf, NoMemory};
@@ -58,7 +59,7 @@ impl Run {
     }
 
     // What the run says of a key.
-    pub(crate) fn get(&self, key: &[u8]) -> Option<&Change>
+    pub(crate) fn get(&self, key: &Sought<'_>) -> Option<&Change>
         ensures { option_map (λ c. c.now) result ≡ entry_at self.now key.now }
     {
         entry_in(&self.entries, key)
@@ -122,14 +123,14 @@ impl Run {
 }
 
 // The entry of a key in a sorted list.
-fn entry_in<'a>(entries: &'a [Entry], key: &[u8]) -> Option<&'a Change>
+fn entry_in<'a>(entries: &'a [Entry], key: &Sought<'_>) -> Option<&'a Change>
     requires { IsRising entries.now }
     ensures { option_map (λ c. c.now) result ≡ entry_at entries.entry.now key.now }
 {
     let found = entries.binary_search_by(
         |entry: &Entry| -> Ordering
             ensures { result ≡ bytes_cmp entry.now.0 key.entry.now }
-        { entry.0.as_slice().cmp(key) },
+        { entry.0.order(key) },
     );
     match found {
         Ok(at) => Some(&entries[at].1),
@@ -154,10 +155,11 @@ fn start_of(entries: &[Entry], prefix: &[u8]) -> usize
     ensures bound { result ≤ length entries.now }
     ensures point { IsPartitionPoint (λ e. is_before prefix.now e ≡ true) (λ e. is_before prefix.now e ≡ false) entries.now result }
 {
+    let prefix = Sought::new(prefix);
     entries.partition_point(
         |entry: &Entry| -> bool
-            ensures { result ≡ is_before prefix.entry.now entry.now }
-        { entry.0.as_slice().cmp(prefix).is_lt() },
+            ensures { result ≡ is_before prefix.entry entry.now }
+        { entry.0.order(&prefix).is_lt() },
     )
 }
 
@@ -197,7 +199,10 @@ fn cells_of(alloc: Global, entries: Vec<Entry>) -> Result<Cells, NoMemory>
     let mut rest = entries.into_iter();
     while let Some((key, change)) = rest.next() {
         if let Change::Put(value) = change {
-            cells.push(Cell { key, value })?;
+            cells.push(Cell {
+                key: key.into_bytes(),
+                value,
+            })?;
         }
     }
     Ok(cells)
@@ -210,7 +215,7 @@ pub(crate) fn deletes_of(alloc: Global, cells: Cells) -> Result<Vec<Entry>, NoMe
     let mut found = Vec::new(alloc);
     let mut rest = cells.into_vec().into_iter();
     while let Some(cell) = rest.next() {
-        let Ok(()) = found.push((cell.key, Change::Delete)) else {
+        let Ok(()) = found.push((Key::new(cell.key), Change::Delete)) else {
             return Err(NoMemory);
         };
     }

@@ -10,7 +10,7 @@ use crate::change::Change;
 use crate::layers::Layers;
 use crate::memtable::Memtable;
 use crate::run::{Run, deletes_of};
-use ax_base::{Bytes, Duplicate, NoMemory};
+use ax_base::{Bytes, NoMemory};
 use std::alloc::Global;
 use std::marker::Model;
 
@@ -64,7 +64,7 @@ impl RunStore {
         ensures { IfOk result (λ value. value ≡ map.get self.now.content key.now) }
     {
         match self.layers.newest(key) {
-            Some(Change::Put(value)) => Ok(Some(value.copy(self.alloc)?)),
+            Some(Change::Put(value)) => Ok(Some(Bytes::from_slice(self.alloc, value.as_slice())?)),
             Some(Change::Delete) => Ok(None),
             None => Ok(None),
         }
