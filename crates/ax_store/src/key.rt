@@ -1,7 +1,7 @@
 //! Keys that are mostly compared without a look at their bytes.
 ghost use Rattle.std.specs.Prelude.{◌≡◌, drop, IfOk};
 ghost use Rattle.ax_base.specs.Heads.{head_of};
-ghost use Rattle.ax_store.specs.Held.{bytes_cmp};
+ghost use Rattle.ax_store.specs.Held.{begins, bytes_cmp};
 
 use ax_base::heads::note_bytes;
 use ax_base::{Bytes, Duplicate, NoMemory, cmp_by_heads, head_of};
@@ -77,6 +77,13 @@ impl Key {
         ensures { result.now ≡ self.now }
     {
         self.bytes.as_slice()
+    }
+
+    // Whether the key begins with a prefix.
+    pub(crate) fn starts_with(&self, prefix: &[u8]) -> bool
+        ensures { result ≡ begins prefix.now self.now }
+    {
+        self.as_slice().starts_with(prefix)
     }
 
     pub(crate) fn into_bytes(self) -> Bytes

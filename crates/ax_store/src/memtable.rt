@@ -7,7 +7,7 @@ ghost use Rattle.ax_store.specs.Entries.{entry_at, IsRising, is_before, part, te
 
 use crate::change::{Change, Entry};
 use crate::key::Key;
-use ax_base::{Bytes, Duplicate, NoMemory};
+use ax_base::{Bytes, NoMemory};
 use std::alloc::Global;
 use std::collections::BTreeMap;
 use std::collections::btree_map::Range;
@@ -103,7 +103,7 @@ fn copy_first(
             return Ok(found);
         }
         let key = Key::new(Bytes::from_slice(alloc, key.as_slice())?);
-        let change = change.copy(alloc)?;
+        let change = change.seen(alloc, true)?;
         let Ok(()) = found.push((key, change)) else {
             return Err(NoMemory);
         };

@@ -4,7 +4,7 @@ ghost use Rattle.std.specs.Vec.{vec_len, vec_capacity};
 ghost use Rattle.std.specs.List.{All, filter};
 ghost use Rattle.std.specs.List.Sorted.{IsPartitionPoint};
 ghost use Rattle.ax_store.specs.Held.{begins, bytes_cmp, pair_of};
-ghost use Rattle.ax_store.specs.Entries.{deletes, entry_at, IsRising, is_before, is_put, live, merged, or_below, part};
+ghost use Rattle.ax_store.specs.Entries.{deletes, entry_at, IsRising, is_before, is_put, live, merged, or_below, part, seen, seen_all};
 
 use crate::cell::{Cell, Cells};
 use crate::change::{Change, Entry};
@@ -92,10 +92,10 @@ impl Run {
 
     // Copies of the entries of which the keys begin with a prefix. No other entry is looked at, but for those of the search
     // for the first one, and the one behind the last.
-    pub(crate) fn part(&self, alloc: Global, prefix: &[u8]) -> Result<Run, NoMemory>
-        ensures { IfOk result (λ run. (q : List ℕ) → entry_at run q ≡ (if begins prefix.now q then entry_at self.now q else None)) }
+    pub(crate) fn part(&self, alloc: Global, prefix: &[u8], values: bool) -> Result<Run, NoMemory>
+        ensures { IfOk result (λ run. (q : List ℕ) → entry_at run q ≡ (if begins prefix.now q then option_map (seen values) (entry_at self.now q) else None)) }
     {
-        let entries = part_of(alloc, &self.entries, prefix)?;
+        let entries = part_of(alloc, &self.entries, prefix, values)?;
         Ok(Run { entries })
     }
 
@@ -111,6 +111,15 @@ impl Run {
             { matches!(entry.1, Change::Put(_)) },
         );
         Run { entries }
+    }
+
+    // A delete of the key of each value.
+    pub(crate) fn into_deletes(self, alloc: Global) -> Result<Run, NoMemory>
+        ensures deletes { IfOk result (λ run. run ≡ deletes (live self)) }
+        ensures rising { IsRising self }
+    {
+        let entries = deletes_of(alloc, self.entries)?;
+        Ok(Run { entries })
     }
 
     // The values, by their keys.
@@ -164,31 +173,48 @@ fn start_of(entries: &[Entry], prefix: &[u8]) -> usize
 }
 
 // Copies of the entries of which the keys begin with a prefix.
-fn part_of(alloc: Global, entries: &[Entry], prefix: &[u8]) -> Result<Vec<Entry>, NoMemory>
+fn part_of(
+    alloc: Global,
+    entries: &[Entry],
+    prefix: &[u8],
+    values: bool,
+) -> Result<Vec<Entry>, NoMemory>
     requires { IsRising entries.now }
-    ensures { IfOk result (λ v. v.items ≡ part prefix.now entries.now) }
+    ensures { IfOk result (λ v. v.items ≡ seen_all values (part prefix.now entries.now)) }
 {
     let start = start_of(entries, prefix);
-    copy_first(alloc, &entries[start..], prefix)
+    copy_first(alloc, &entries[start..], prefix, values)
 }
 
 // Copies of the first entries, as long as their keys begin with a prefix.
-fn copy_first(alloc: Global, rest: &[Entry], prefix: &[u8]) -> Result<Vec<Entry>, NoMemory>
+fn copy_first(
+    alloc: Global,
+    rest: &[Entry],
+    prefix: &[u8],
+    values: bool,
+) -> Result<Vec<Entry>, NoMemory>
     requires rising { IsRising rest.now }
     requires from { All (λ e. is_before prefix.now e ≡ false) rest.now }
-    ensures { IfOk result (λ v. v.items ≡ part prefix.now rest.now) }
+    ensures { IfOk result (λ v. v.items ≡ seen_all values (part prefix.now rest.now)) }
 {
     let mut found = Vec::new(alloc);
     for entry in rest {
-        if !entry.0.as_slice().starts_with(prefix) {
+        if !entry.0.starts_with(prefix) {
             return Ok(found);
         }
-        let copy = (entry.0.copy(alloc)?, entry.1.copy(alloc)?);
+        let copy = (entry.0.copy(alloc)?, entry.1.seen(alloc, values)?);
         let Ok(()) = found.push(copy) else {
             return Err(NoMemory);
         };
     }
     Ok(found)
+}
+
+fn cell(key: Key, value: Bytes) -> Cell
+    ensures { pair_of result ≡ (key, value) }
+{
+    let key = key.into_bytes();
+    Cell { key, value }
 }
 
 // The values of entries, by their keys.
@@ -198,26 +224,26 @@ fn cells_of(alloc: Global, entries: Vec<Entry>) -> Result<Cells, NoMemory>
     let mut cells = ListOf::new(alloc);
     let mut rest = entries.into_iter();
     while let Some((key, change)) = rest.next() {
-        if let Change::Put(value) = change {
-            cells.push(Cell {
-                key: key.into_bytes(),
-                value,
-            })?;
+        match change {
+            Change::Put(value) => cells.push(cell(key, value))?,
+            Change::Delete => {}
         }
     }
     Ok(cells)
 }
 
-/// A delete of the key of each cell.
-pub(crate) fn deletes_of(alloc: Global, cells: Cells) -> Result<Vec<Entry>, NoMemory>
-    ensures { IfOk result (λ v. v.items ≡ deletes (each pair_of cells)) }
+// A delete of the key of each value.
+fn deletes_of(alloc: Global, entries: Vec<Entry>) -> Result<Vec<Entry>, NoMemory>
+    ensures { IfOk result (λ v. v.items ≡ deletes (live entries.items)) }
 {
     let mut found = Vec::new(alloc);
-    let mut rest = cells.into_vec().into_iter();
-    while let Some(cell) = rest.next() {
-        let Ok(()) = found.push((Key::new(cell.key), Change::Delete)) else {
-            return Err(NoMemory);
-        };
+    let mut rest = entries.into_iter();
+    while let Some((key, change)) = rest.next() {
+        if let Change::Put(_) = change {
+            let Ok(()) = found.push((key, Change::Delete)) else {
+                return Err(NoMemory);
+            };
+        }
     }
     Ok(found)
 }
