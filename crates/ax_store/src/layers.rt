@@ -97,7 +97,8 @@ impl Layers {
         merge_first(alloc, &mut self.runs)
     }
 
-    // Makes the runs one, where there are any. No run is below that one, so deletes are left out of it.
+    // Makes the runs one, where there are any. No run is below that one, so deletes are left out of it,
+    // which no public call shows.
     pub(crate) fn compact(&mut self, alloc: Global) -> Result<(), NoMemory>
         ensures memtable { self.new.memtable ≡ self.old.memtable }
         ensures content { content_of (layers_of self.new) ≡ content_of (layers_of self.old) }
