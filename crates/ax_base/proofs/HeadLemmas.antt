@@ -15,7 +15,7 @@ first : (b : ℕ) (bytes : List ℕ) → AreBytes (b ∷ bytes) → b < 256
 first b bytes small = small 0 (omega arith)
 
 -- a greater number stays greater whatever bytes stand behind it
-stays_less : (n h g : ℕ) (a b : List ℕ) → AreBytes a → h < g → head_from h n a < head_from g n b
+pub stays_less : (n h g : ℕ) (a b : List ℕ) → AreBytes a → h < g → head_from h n a < head_from g n b
 stays_less zero h g a b small less = less
 stays_less (suc n) h g [] [] small less = stays_less n (256 * h) (256 * g) [] [] small (omega arith)
 stays_less (suc n) h g [] (y ∷ ys) small less = stays_less n (256 * h) (256 * g + y) [] ys small (omega arith)

@@ -28,8 +28,8 @@ pub fn head_of(bytes: &[u8]) -> u64
     256 * (256 * head + byte_at(bytes, 6)) + byte_at(bytes, 7)
 }
 
-// Each byte is below 256.
-fn note_bytes(bytes: &[u8])
+/// Each byte is below 256, which a proof may want. It does nothing.
+pub fn note_bytes(bytes: &[u8])
     ensures { AreBytes bytes.now }
 {}
 

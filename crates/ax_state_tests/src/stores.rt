@@ -2,42 +2,68 @@
 ghost use Rattle.std.specs.Prelude.{◌≤◌};
 
 use crate::draws::next_draw;
+use ax_base::Duplicate;
 use ax_store::RunStore;
 use std::alloc::Global;
 use std::collections::BTreeMap;
 use std::process::Abort;
 use std::test::Fail;
 
-// A store with the values of some keys, each of which is its own value.
-fn filled(alloc: Global, most: u32, keys: &[&[u8]]) -> Result<RunStore, Fail>
+// A store with some keys and the value of each.
+fn filled(
+    alloc: Global,
+    most: u32,
+    keys: &[&[u8]],
+    values: &[&[u8]],
+) -> Result<RunStore, Fail>
     requires { 1 ≤ most }
 {
     let mut store = RunStore::with_memtable(alloc, most)?;
-    for key in keys {
-        store.put(key, key)?;
+    for (key, value) in keys.iter().zip(values) {
+        store.put(key, value)?;
     }
     Ok(store)
+}
+
+// The map has these keys, with the value of each, and no other.
+fn has(rt: &impl Abort, store: &RunStore, keys: &[&[u8]], values: &[&[u8]]) -> Result<(), Fail> {
+    let cells = store.scan_prefix(b"")?;
+    let mut found = cells.as_slice().iter();
+    for (key, value) in keys.iter().zip(values) {
+        let cell = found.next();
+        assert_eq!(rt; cell.map(|c| c.key.as_slice()), Some(*key));
+        assert_eq!(rt; cell.map(|c| c.value.as_slice()), Some(*value));
+        let got = store.get(key)?;
+        assert_eq!(rt; got.as_ref().map(|v| v.as_slice()), Some(*value));
+    }
+    assert!(rt; found.next().is_none());
+    Ok(())
 }
 
 #[test]
 fn a_full_memtable_becomes_a_run(rt: HostRuntime) -> Result<(), Fail> {
     let keys: [&[u8]; 6] = [b"a", b"b", b"c", b"d", b"e", b"f"];
+    let values: [&[u8]; 6] = [b"1", b"2", b"3", b"4", b"5", b"6"];
     for (count, runs) in [(2usize, 1u32), (5, 4), (6, 1)] {
-        let store = filled(rt.alloc(), 1, &keys[..count.min(6)])?;
+        let (keys, values) = (&keys[..count.min(6)], &values[..count.min(6)]);
+        let store = filled(rt.alloc(), 1, keys, values)?;
         assert_eq!(rt; store.memtable_len(), 1);
         assert_eq!(rt; store.runs(), runs);
+        has(&rt, &store, keys, values)?;
     }
     Ok(())
 }
 
 #[test]
 fn a_deleted_key_stays_deleted(rt: HostRuntime) -> Result<(), Fail> {
-    let mut store = filled(rt.alloc(), 1, &[b"k"])?;
+    let mut store = filled(rt.alloc(), 1, &[b"k"], &[b"1"])?;
     store.flush()?;
+    has(&rt, &store, &[b"k"], &[b"1"])?;
     store.delete(b"k")?;
     store.flush()?;
     assert!(rt; store.get(b"k")?.is_none());
     store.compact()?;
+    assert_eq!(rt; store.runs(), 1);
     assert!(rt; store.get(b"k")?.is_none());
     assert!(rt; store.scan_prefix(b"k")?.is_empty());
     Ok(())
@@ -45,13 +71,41 @@ fn a_deleted_key_stays_deleted(rt: HostRuntime) -> Result<(), Fail> {
 
 #[test]
 fn a_prefix_is_deleted(rt: HostRuntime) -> Result<(), Fail> {
-    let mut store = filled(rt.alloc(), 2, &[b"ab", b"ac", b"b"])?;
+    let mut store = filled(rt.alloc(), 2, &[b"ab", b"ac", b"b"], &[b"1", b"2", b"3"])?;
     store.delete_prefix(b"a")?;
-    let cells = store.scan_prefix(b"")?.into_vec();
+    has(&rt, &store, &[b"b"], &[b"3"])
+}
+
+// The first sixteen bytes of keys are compared as two numbers, and the others as bytes.
+#[test]
+fn keys_of_each_length_are_in_order(rt: HostRuntime) -> Result<(), Fail> {
+    let text = b"aaaaaaaaaaaaaaaaaa";
+    let mut store = RunStore::with_memtable(rt.alloc(), 1)?;
+    for len in 0..18usize {
+        let turned = 17 - len;
+        store.put(&text[..turned], &text[..1])?;
+    }
+    store.compact()?;
+    let cells = store.scan_prefix(b"")?;
+    let mut found = cells.as_slice().iter();
+    for len in 0..18usize {
+        let cell = found.next();
+        assert_eq!(rt; cell.map(|c| c.key.as_slice()), Some(&text[..len]));
+        assert_eq!(rt; store.get(&text[..len])?.is_some(), true);
+    }
+    assert!(rt; found.next().is_none());
+    Ok(())
+}
+
+#[test]
+fn a_cell_is_copied(rt: HostRuntime) -> Result<(), Fail> {
+    let store = filled(rt.alloc(), 2, &[b"ab"], &[b"1"])?;
+    let cells = store.scan_prefix(b"a")?;
     assert_eq!(rt; cells.len(), 1);
-    for cell in &cells {
-        assert_eq!(rt; cell.key.as_slice(), b"b".as_slice());
-        assert_eq!(rt; cell.value.as_slice(), b"b".as_slice());
+    for cell in cells.as_slice() {
+        let copy = cell.copy(rt.alloc())?;
+        assert_eq!(rt; copy.key.as_slice(), b"ab".as_slice());
+        assert_eq!(rt; copy.value.as_slice(), b"1".as_slice());
     }
     Ok(())
 }

@@ -1,5 +1,5 @@
 -- A run of deletes over a map.
-use Rattle.std.proofs.Common.{◌≡◌, ◌∙◌, Bool, true, false, not, cond, List, [], ◌∷◌, Option, Some, None, refl, sym, ap, map}
+use Rattle.std.proofs.Common.{◌≡◌, ◌∙◌, Bool, true, false, not, cond, List, [], ◌∷◌, Option, Some, None, option_map, refl, sym, ap, map}
 use Rattle.std.specs.Prelude.{◌&&◌}
 use Rattle.std.specs.Ordering.{is_lt, is_eq}
 use Rattle.std.specs.declared.cmp.Ordering.{Ordering}
@@ -7,15 +7,17 @@ use Rattle.std.specs.declared.cmp.Ordering.TheVariants.{Less, Equal, Greater}
 use Rattle.std.specs.List.{AllByRecursion}
 use Rattle.std.specs.List.Sorted.{IsStrictlySortedBy}
 use Rattle.std.specs.FinMap.{entries, entries_sorted, get, get-entries, get-retain_keys, retain_keys}
-use Rattle.std.specs.FinMap.Entries.{find, is_sorted, below_all}
+use Rattle.std.specs.FinMap.Entries.{find, is_sorted, below_all, same_entries}
 use lib.Dec.{T}
 use Rattle.std.proofs.lemmas.Map.Lookups.{exact_bytes}
 use Rattle.ax_store.specs.declared.change.Change.{Change}
-use Rattle.ax_store.specs.declared.change.Change.TheVariants.{Delete}
-use Rattle.ax_store.specs.Held.{Text, Content, bytes_cmp}
-use Rattle.ax_store.specs.Entries.{IsRising, deletes, entry_at}
-use Rattle.ax_store.specs.Layers.{over}
-use Rattle.ax_store.proofs.ContentLemmas.{by_entry, get_over, same_content}
+use Rattle.ax_store.specs.declared.change.Change.TheVariants.{Put, Delete}
+use Rattle.std.specs.Cmp.Lexicographic.{nat_list_cmp_total}
+use Rattle.ax_store.specs.Held.{Text, Content, begins, bytes_cmp}
+use Rattle.ax_store.specs.Entries.{Layer, IsRising, deletes, entry_at, live, seen}
+use Rattle.ax_store.specs.Layers.{content_of, newest_of, over, shown}
+use Rattle.ax_store.proofs.ContentLemmas.{by_entry, find-entry, get_content, get_over, same_content}
+use Rattle.ax_store.proofs.LiveLemmas.{find-live, sorted-live}
 
 first : (a b : Bool) → T (a && b) → T a
 first true b p = tt
@@ -71,3 +73,41 @@ over-deletes m p = same_content _ _ (λ q.
     go true (Some v) = refl
     go true None = refl
     go false g = refl
+
+-- ---- deletes of what copies without values have
+
+pub rising-live : (es : Layer) → IsRising es → IsRising (deletes (live es))
+rising-live es h = rising_deletes (live es) (sorted-live es h)
+
+pair : (a b : Bool) → T a → T b → T (a && b)
+pair true b h k = k
+pair false b h k = h
+
+below-deletes : (k : Text) (cells : List (Text × Text)) → T (below_all bytes_cmp k cells) → T (below_all bytes_cmp k (deletes cells))
+below-deletes k [] h = tt
+below-deletes k (e ∷ es) h = pair _ _ (first _ _ h) (below-deletes k es (second _ _ h))
+
+sorted-deletes : (cells : List (Text × Text)) → T (is_sorted bytes_cmp cells) → T (is_sorted bytes_cmp (deletes cells))
+sorted-deletes [] h = tt
+sorted-deletes (e ∷ es) h = pair _ _ (below-deletes e.0 es (first _ _ h)) (sorted-deletes es (second _ _ h))
+
+find-deletes : (cells : List (Text × Text)) (q : Text) → find bytes_cmp q (deletes cells) ≡ erased (find bytes_cmp q cells)
+find-deletes cells q = find-entry (deletes cells) q ∙ entry-deletes cells q
+
+-- a layer that says of each key with a prefix whether the layers have a value
+pub deletes_are : (prefix : Text) (layers : List Layer) (one : Layer) → IsRising one → ((q : Text) → entry_at one q ≡ cond (begins prefix q) (option_map (seen false) (newest_of layers q)) None)
+    → deletes (live one) ≡ deletes (entries (retain_keys (content_of layers) (begins prefix)))
+unfolding erased
+deletes_are prefix layers one rising h = same_entries bytes_cmp nat_list_cmp_total exact_bytes _ _
+    (sorted-deletes (live one) (sorted-live one rising))
+    (sorted-deletes (entries (retain_keys (content_of layers) (begins prefix))) (entries_sorted (retain_keys (content_of layers) (begins prefix))))
+    (λ q. find-deletes (live one) q ∙ ap erased (find-live q one rising ∙ ap shown (h q)) ∙ go (begins prefix q) (newest_of layers q)
+    ∙ ap (λ o. erased (cond (begins prefix q) o None)) (sym (get_content layers q))
+    ∙ ap erased (sym (get-retain_keys (content_of layers) (begins prefix) q (λ x t. ap (begins prefix) (sym (exact_bytes q x t)))) ∙ get-entries (retain_keys (content_of layers) (begins prefix)) q)
+    ∙ sym (find-deletes (entries (retain_keys (content_of layers) (begins prefix))) q))
+  where
+    go : (b : Bool) (o : Option Change) → erased (shown (cond b (option_map (seen false) o) None)) ≡ erased (cond b (shown o) None)
+    go true (Some (Put v)) = refl
+    go true (Some Delete) = refl
+    go true None = refl
+    go false o = refl

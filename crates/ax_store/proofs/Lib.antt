@@ -5,3 +5,5 @@ pub mod LiveLemmas
 pub mod MergeLemmas
 pub mod PrefixLemmas
 pub mod SearchLemmas
+pub mod SeenLemmas
+pub mod TieLemmas

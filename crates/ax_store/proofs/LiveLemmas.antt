@@ -28,7 +28,7 @@ below-live k [] h = tt
 below-live k ((j, Put v) ∷ es) h = both _ _ (subst (λ (r : Ordering). T (is_lt r)) (sym h.0) tt) (below-live k es h.1)
 below-live k ((j, Delete) ∷ es) h = below-live k es h.1
 
-sorted-live : (es : Layer) → IsRising es → T (is_sorted bytes_cmp (live es))
+pub sorted-live : (es : Layer) → IsRising es → T (is_sorted bytes_cmp (live es))
 unfolding IsStrictlySortedBy
 sorted-live [] h = tt
 sorted-live ((j, Put v) ∷ es) h = both _ _ (below-live j es h.0) (sorted-live es h.1)
@@ -44,7 +44,7 @@ is_eq-Equal Less e = cc
 is_eq-Equal Equal e = refl
 is_eq-Equal Greater e = cc
 
-find-live : (q : Text) (es : Layer) → IsRising es → find bytes_cmp q (live es) ≡ shown (entry_at es q)
+pub find-live : (q : Text) (es : Layer) → IsRising es → find bytes_cmp q (live es) ≡ shown (entry_at es q)
 unfolding IsStrictlySortedBy
 find-live q [] h = refl
 find-live q ((j, Put v) ∷ es) h = go (is_eq (bytes_cmp q j)) (find-live q es h.1)

@@ -31,6 +31,16 @@ or_below None below = below
 abbrev pub part : Text → Layer → Layer
 part prefix layer = filter (λ e. begins prefix e.0) layer
 
+-- what a copy has of what is said of a key: all of it, or no more than whether it is a value
+abbrev pub seen : Bool → Change → Change
+seen true c = c
+seen false (Put value) = Put []
+seen false Delete = Delete
+
+-- a layer as copies have it
+abbrev pub seen_all : Bool → Layer → Layer
+seen_all values layer = map (λ e. (e.0, seen values e.1)) layer
+
 -- whether a key comes before a prefix
 abbrev pub is_before : Text → Text × Change → Bool
 is_before prefix e = is_lt (bytes_cmp e.0 prefix)

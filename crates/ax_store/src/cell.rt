@@ -16,8 +16,8 @@ pub type Cells = ListOf<Cell>;
 
 impl Duplicate for Cell {
     fn copy(&self, alloc: Global) -> Result<Cell, NoMemory> {
-        let key = self.key.copy(alloc)?;
-        let value = self.value.copy(alloc)?;
+        let key = Bytes::from_slice(alloc, self.key.as_slice())?;
+        let value = Bytes::from_slice(alloc, self.value.as_slice())?;
         Ok(Cell { key, value })
     }
 }

@@ -1,11 +1,12 @@
 //! The layers of a store.
-ghost use Rattle.std.specs.Prelude.{◌≡◌, ℕ, List, [], ◌∷◌, ◌+◌, ◌<◌, ◌≤◌, if◌then◌else◌, min, length, None, option_map, IfOk, OnOk, OnErr};
+ghost use Rattle.std.specs.Prelude.{◌≡◌, ℕ, List, [], ◌∷◌, ◌+◌, ◌<◌, ◌≤◌, if◌then◌else◌, false, min, length, None, option_map, IfOk, OnOk, OnErr};
 ghost use Rattle.std.specs.Vec.{vec_capacity};
 ghost use Rattle.ax_store.specs.Held.{begins, runs_after_flush};
-ghost use Rattle.ax_store.specs.Entries.{entry_at, or_below};
+ghost use Rattle.ax_store.specs.Entries.{entry_at, or_below, seen};
 ghost use Rattle.ax_store.specs.Layers.{content_of, layers_of, merged_first, newest_of};
 
 use crate::change::{Change, Entry};
+use crate::key::Sought;
 use crate::memtable::Memtable;
 use crate::run::Run;
 use ax_base::NoMemory;
@@ -38,7 +39,7 @@ impl Layers {
         if let Some(change) = self.memtable.get(key) {
             return Some(change);
         }
-        newest_in(&self.runs, key)
+        newest_in(&self.runs, &Sought::new(key))
     }
 
     // The newest entries of the keys that begin with a prefix.
@@ -46,7 +47,15 @@ impl Layers {
         ensures { IfOk result (λ run. (q : List ℕ) → entry_at run q ≡ (if begins prefix.now q then newest_of (layers_of self.now) q else None)) }
     {
         let entries = self.memtable.part(alloc, prefix)?;
-        merge_parts(alloc, Run::from_entries(entries), &self.runs, prefix)
+        merge_parts(alloc, Run::from_entries(entries), &self.runs, prefix, true)
+    }
+
+    // The newest entries of the keys that begin with a prefix, without their values.
+    pub(crate) fn marks(&self, alloc: Global, prefix: &[u8]) -> Result<Run, NoMemory>
+        requires { self.now.memtable ≡ [] }
+        ensures { IfOk result (λ run. (q : List ℕ) → entry_at run q ≡ (if begins prefix.now q then option_map (seen false) (newest_of (layers_of self.now) q) else None)) }
+    {
+        merge_parts(alloc, Run::new(alloc), &self.runs, prefix, false)
     }
 
     // Puts a run above the others. After `NoMemory` nothing has changed.
@@ -88,7 +97,8 @@ impl Layers {
         merge_first(alloc, &mut self.runs)
     }
 
-    // Makes the runs one, where there are any. No run is below that one, so deletes are left out of it.
+    // Makes the runs one, where there are any. No run is below that one, so deletes are left out of it,
+    // which no public call shows.
     pub(crate) fn compact(&mut self, alloc: Global) -> Result<(), NoMemory>
         ensures memtable { self.new.memtable ≡ self.old.memtable }
         ensures content { content_of (layers_of self.new) ≡ content_of (layers_of self.old) }
@@ -151,12 +161,18 @@ fn merge_first(alloc: Global, runs: &mut Vec<Run>) -> Result<(), NoMemory>
 }
 
 // The entries of the newest run and of the parts of the others, from the newest on; at a key of several, the newest one.
-fn merge_parts(alloc: Global, newest: Run, runs: &[Run], prefix: &[u8]) -> Result<Run, NoMemory>
-    ensures { IfOk result (λ run. (q : List ℕ) → entry_at run q ≡ or_below (entry_at newest q) (if begins prefix.now q then newest_of runs.now q else None)) }
+fn merge_parts(
+    alloc: Global,
+    newest: Run,
+    runs: &[Run],
+    prefix: &[u8],
+    values: bool,
+) -> Result<Run, NoMemory>
+    ensures { IfOk result (λ run. (q : List ℕ) → entry_at run q ≡ or_below (entry_at newest q) (if begins prefix.now q then option_map (seen values) (newest_of runs.now q) else None)) }
 {
     let mut found = newest;
     for run in runs {
-        let older = run.part(alloc, prefix)?;
+        let older = run.part(alloc, prefix, values)?;
         let room = room_for(alloc, found.len() + older.len())?;
         found = Run::merge(found, older, room);
     }
@@ -164,7 +180,7 @@ fn merge_parts(alloc: Global, newest: Run, runs: &[Run], prefix: &[u8]) -> Resul
 }
 
 // The newest entry of a key in runs.
-fn newest_in<'a>(runs: &'a [Run], key: &[u8]) -> Option<&'a Change>
+fn newest_in<'a>(runs: &'a [Run], key: &Sought<'_>) -> Option<&'a Change>
     ensures { option_map (λ c. c.now) result ≡ newest_of runs.entry.now key.now }
 {
     for run in runs {

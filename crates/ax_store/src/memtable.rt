@@ -6,7 +6,8 @@ ghost use Rattle.ax_store.specs.Held.{Text, bytes_cmp};
 ghost use Rattle.ax_store.specs.Entries.{entry_at, IsRising, is_before, part, texts};
 
 use crate::change::{Change, Entry};
-use ax_base::{Bytes, Duplicate, NoMemory};
+use crate::key::Key;
+use ax_base::{Bytes, NoMemory};
 use std::alloc::Global;
 use std::collections::BTreeMap;
 use std::collections::btree_map::Range;
@@ -70,7 +71,7 @@ impl Memtable {
         ensures rest { MatchOption result (self.new ≡ []) (λ e. length self.new + 1 ≡ length self.old) }
     {
         let (key, change) = self.entries.pop_first()?;
-        Some((Bytes::from_vec(key), change))
+        Some((Key::new(Bytes::from_vec(key)), change))
     }
 
     // Copies of the entries of which the keys begin with a prefix. No other entry is looked at, but for the one behind them.
@@ -101,8 +102,8 @@ fn copy_first(
         if !key.as_slice().starts_with(prefix) {
             return Ok(found);
         }
-        let key = Bytes::from_slice(alloc, key.as_slice())?;
-        let change = change.copy(alloc)?;
+        let key = Key::new(Bytes::from_slice(alloc, key.as_slice())?);
+        let change = change.seen(alloc, true)?;
         let Ok(()) = found.push((key, change)) else {
             return Err(NoMemory);
         };

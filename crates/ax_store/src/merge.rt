@@ -43,7 +43,7 @@ impl Merge {
             (None, None) => None,
             (Some(above), None) => Some(above),
             (None, Some(below)) => Some(below),
-            (Some(above), Some(below)) => match above.0.as_slice().cmp(below.0.as_slice()) {
+            (Some(above), Some(below)) => match above.0.order(&below.0.sought()) {
                 Ordering::Less => {
                     self.below = Some(below);
                     Some(above)

@@ -4,10 +4,11 @@ ghost use Rattle.std.specs.Vec.{vec_len, vec_capacity};
 ghost use Rattle.std.specs.List.{All, filter};
 ghost use Rattle.std.specs.List.Sorted.{IsPartitionPoint};
 ghost use Rattle.ax_store.specs.Held.{begins, bytes_cmp, pair_of};
-ghost use Rattle.ax_store.specs.Entries.{deletes, entry_at, IsRising, is_before, is_put, live, merged, or_below, part};
+ghost use Rattle.ax_store.specs.Entries.{deletes, entry_at, IsRising, is_before, is_put, live, merged, or_below, part, seen, seen_all};
 
 use crate::cell::{Cell, Cells};
 use crate::change::{Change, Entry};
+use crate::key::{Key, Sought};
 use crate::memtable::Memtable;
 use crate::merge::merge_into;
 use ax_base::{Bytes, Duplicate, ListOf, NoMemory};
@@ -58,7 +59,7 @@ impl Run {
     }
 
     // What the run says of a key.
-    pub(crate) fn get(&self, key: &[u8]) -> Option<&Change>
+    pub(crate) fn get(&self, key: &Sought<'_>) -> Option<&Change>
         ensures { option_map (λ c. c.now) result ≡ entry_at self.now key.now }
     {
         entry_in(&self.entries, key)
@@ -91,10 +92,10 @@ impl Run {
 
     // Copies of the entries of which the keys begin with a prefix. No other entry is looked at, but for those of the search
     // for the first one, and the one behind the last.
-    pub(crate) fn part(&self, alloc: Global, prefix: &[u8]) -> Result<Run, NoMemory>
-        ensures { IfOk result (λ run. (q : List ℕ) → entry_at run q ≡ (if begins prefix.now q then entry_at self.now q else None)) }
+    pub(crate) fn part(&self, alloc: Global, prefix: &[u8], values: bool) -> Result<Run, NoMemory>
+        ensures { IfOk result (λ run. (q : List ℕ) → entry_at run q ≡ (if begins prefix.now q then option_map (seen values) (entry_at self.now q) else None)) }
     {
-        let entries = part_of(alloc, &self.entries, prefix)?;
+        let entries = part_of(alloc, &self.entries, prefix, values)?;
         Ok(Run { entries })
     }
 
@@ -112,6 +113,15 @@ impl Run {
         Run { entries }
     }
 
+    // A delete of the key of each value.
+    pub(crate) fn into_deletes(self, alloc: Global) -> Result<Run, NoMemory>
+        ensures deletes { IfOk result (λ run. run ≡ deletes (live self)) }
+        ensures rising { IsRising self }
+    {
+        let entries = deletes_of(alloc, self.entries)?;
+        Ok(Run { entries })
+    }
+
     // The values, by their keys.
     pub(crate) fn into_cells(self, alloc: Global) -> Result<Cells, NoMemory>
         ensures cells { IfOk result (λ cells. each pair_of cells ≡ live self) }
@@ -122,14 +132,14 @@ impl Run {
 }
 
 // The entry of a key in a sorted list.
-fn entry_in<'a>(entries: &'a [Entry], key: &[u8]) -> Option<&'a Change>
+fn entry_in<'a>(entries: &'a [Entry], key: &Sought<'_>) -> Option<&'a Change>
     requires { IsRising entries.now }
     ensures { option_map (λ c. c.now) result ≡ entry_at entries.entry.now key.now }
 {
     let found = entries.binary_search_by(
         |entry: &Entry| -> Ordering
             ensures { result ≡ bytes_cmp entry.now.0 key.entry.now }
-        { entry.0.as_slice().cmp(key) },
+        { entry.0.order(key) },
     );
     match found {
         Ok(at) => Some(&entries[at].1),
@@ -154,39 +164,57 @@ fn start_of(entries: &[Entry], prefix: &[u8]) -> usize
     ensures bound { result ≤ length entries.now }
     ensures point { IsPartitionPoint (λ e. is_before prefix.now e ≡ true) (λ e. is_before prefix.now e ≡ false) entries.now result }
 {
+    let prefix = Sought::new(prefix);
     entries.partition_point(
         |entry: &Entry| -> bool
-            ensures { result ≡ is_before prefix.entry.now entry.now }
-        { entry.0.as_slice().cmp(prefix).is_lt() },
+            ensures { result ≡ is_before prefix.entry entry.now }
+        { entry.0.order(&prefix).is_lt() },
     )
 }
 
 // Copies of the entries of which the keys begin with a prefix.
-fn part_of(alloc: Global, entries: &[Entry], prefix: &[u8]) -> Result<Vec<Entry>, NoMemory>
+fn part_of(
+    alloc: Global,
+    entries: &[Entry],
+    prefix: &[u8],
+    values: bool,
+) -> Result<Vec<Entry>, NoMemory>
     requires { IsRising entries.now }
-    ensures { IfOk result (λ v. v.items ≡ part prefix.now entries.now) }
+    ensures { IfOk result (λ v. v.items ≡ seen_all values (part prefix.now entries.now)) }
 {
     let start = start_of(entries, prefix);
-    copy_first(alloc, &entries[start..], prefix)
+    copy_first(alloc, &entries[start..], prefix, values)
 }
 
 // Copies of the first entries, as long as their keys begin with a prefix.
-fn copy_first(alloc: Global, rest: &[Entry], prefix: &[u8]) -> Result<Vec<Entry>, NoMemory>
+fn copy_first(
+    alloc: Global,
+    rest: &[Entry],
+    prefix: &[u8],
+    values: bool,
+) -> Result<Vec<Entry>, NoMemory>
     requires rising { IsRising rest.now }
     requires from { All (λ e. is_before prefix.now e ≡ false) rest.now }
-    ensures { IfOk result (λ v. v.items ≡ part prefix.now rest.now) }
+    ensures { IfOk result (λ v. v.items ≡ seen_all values (part prefix.now rest.now)) }
 {
     let mut found = Vec::new(alloc);
     for entry in rest {
-        if !entry.0.as_slice().starts_with(prefix) {
+        if !entry.0.starts_with(prefix) {
             return Ok(found);
         }
-        let copy = (entry.0.copy(alloc)?, entry.1.copy(alloc)?);
+        let copy = (entry.0.copy(alloc)?, entry.1.seen(alloc, values)?);
         let Ok(()) = found.push(copy) else {
             return Err(NoMemory);
         };
     }
     Ok(found)
+}
+
+fn cell(key: Key, value: Bytes) -> Cell
+    ensures { pair_of result ≡ (key, value) }
+{
+    let key = key.into_bytes();
+    Cell { key, value }
 }
 
 // The values of entries, by their keys.
@@ -196,23 +224,26 @@ fn cells_of(alloc: Global, entries: Vec<Entry>) -> Result<Cells, NoMemory>
     let mut cells = ListOf::new(alloc);
     let mut rest = entries.into_iter();
     while let Some((key, change)) = rest.next() {
-        if let Change::Put(value) = change {
-            cells.push(Cell { key, value })?;
+        match change {
+            Change::Put(value) => cells.push(cell(key, value))?,
+            Change::Delete => {}
         }
     }
     Ok(cells)
 }
 
-/// A delete of the key of each cell.
-pub(crate) fn deletes_of(alloc: Global, cells: Cells) -> Result<Vec<Entry>, NoMemory>
-    ensures { IfOk result (λ v. v.items ≡ deletes (each pair_of cells)) }
+// A delete of the key of each value.
+fn deletes_of(alloc: Global, entries: Vec<Entry>) -> Result<Vec<Entry>, NoMemory>
+    ensures { IfOk result (λ v. v.items ≡ deletes (live entries.items)) }
 {
     let mut found = Vec::new(alloc);
-    let mut rest = cells.into_vec().into_iter();
-    while let Some(cell) = rest.next() {
-        let Ok(()) = found.push((cell.key, Change::Delete)) else {
-            return Err(NoMemory);
-        };
+    let mut rest = entries.into_iter();
+    while let Some((key, change)) = rest.next() {
+        if let Change::Put(_) = change {
+            let Ok(()) = found.push((key, Change::Delete)) else {
+                return Err(NoMemory);
+            };
+        }
     }
     Ok(found)
 }

@@ -2,15 +2,14 @@
 ghost use Rattle.std.specs.Prelude.{◌≡◌, ◌≤◌, ◌<◌, ◌+◌, ◌==◌, if◌then◌else◌, min, not, length, map as each, IfOk, OnOk, OnErr};
 ghost use Rattle.std.specs.FinMap as map;
 ghost use Rattle.ax_store.specs.Held.{before_entry, begins, pair_of, runs_after_delete, runs_after_flush, Entered};
-ghost use Rattle.ax_store.specs.Entries.{deletes, IsRising};
 ghost use Rattle.ax_store.specs.Layers.{changed, over};
 
 use crate::cell::Cells;
 use crate::change::Change;
 use crate::layers::Layers;
 use crate::memtable::Memtable;
-use crate::run::{Run, deletes_of};
-use ax_base::{Bytes, Duplicate, NoMemory};
+use crate::run::Run;
+use ax_base::{Bytes, NoMemory};
 use std::alloc::Global;
 use std::marker::Model;
 
@@ -64,7 +63,7 @@ impl RunStore {
         ensures { IfOk result (λ value. value ≡ map.get self.now.content key.now) }
     {
         match self.layers.newest(key) {
-            Some(Change::Put(value)) => Ok(Some(value.copy(self.alloc)?)),
+            Some(Change::Put(value)) => Ok(Some(Bytes::from_slice(self.alloc, value.as_slice())?)),
             Some(Change::Delete) => Ok(None),
             None => Ok(None),
         }
@@ -153,8 +152,9 @@ impl RunStore {
     {
         self.flush()?;
         self.leave_place()?;
-        let found = self.scan_prefix(prefix)?;
-        self.push_deletes(found)
+        let found = self.layers.marks(self.alloc, prefix)?;
+        let deletes = found.into_deletes(self.alloc)?;
+        self.push_run(deletes)
     }
 
     // Four runs become one.
@@ -171,22 +171,20 @@ impl RunStore {
         self.compact()
     }
 
-    // Puts a run of deletes of the keys of some cells above the others, where there are any.
-    fn push_deletes(&mut self, cells: Cells) -> Result<(), NoMemory>
+    // Puts a run above the others, where it has entries.
+    fn push_run(&mut self, run: Run) -> Result<(), NoMemory>
         requires few { self.old.runs < 4 }
         requires empty { self.old.memtable ≡ 0 }
-        requires rising { IsRising (deletes (each pair_of cells)) }
-        ensures ok { OnOk result (self.new.content ≡ over (deletes (each pair_of cells)) self.old.content) }
+        ensures ok { OnOk result (self.new.content ≡ over run self.old.content) }
         ensures err { OnErr result (self.new.content ≡ self.old.content) }
-        ensures runs { OnOk result (self.new.runs ≡ self.old.runs + (if length cells == 0 then 0 else 1)) }
+        ensures runs { OnOk result (self.new.runs ≡ self.old.runs + (if length run == 0 then 0 else 1)) }
         ensures memtable { self.new.memtable ≡ self.old.memtable }
         ensures most { self.new.most ≡ self.old.most }
     {
-        if cells.is_empty() {
+        if run.len() == 0 {
             return Ok(());
         }
-        let entries = deletes_of(self.alloc, cells)?;
-        self.layers.push(Run::from_entries(entries))
+        self.layers.push(run)
     }
 
     /// Makes a run of the memtable, where it has entries; where that makes five runs they become one.

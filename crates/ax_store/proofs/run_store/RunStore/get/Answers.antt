@@ -6,10 +6,10 @@ use Rattle.ax_store.specs.Layers.{layers_of, newest_of, shown}
 use Rattle.ax_store.proofs.ContentLemmas.{get_content}
 use Rattle.ax_store.proofs.run_store.RunStore.get.Goals as goal
 
-pub returns-in_ok-copy-in-Some-Put : goal.returns-in_ok-copy-in-Some-Put
-returns-in_ok-copy-in-Some-Put c =
+pub returns-in_ok-from_slice-in-Some-Put : goal.returns-in_ok-from_slice-in-Some-Put
+returns-in_ok-from_slice-in-Some-Put c =
     let layers = layers_of c.self.inside.layers in
-    let is : newest_of layers c.args.key.now ≡ Some (Put c.in_ok-copy-in-Some-Put.field-0) = search rules in
+    let is : newest_of layers c.args.key.now ≡ Some (Put c.in_ok-from_slice-in-Some-Put.field-0) = search rules in
     ap shown (sym is) ∙ sym (get_content layers c.args.key.now) ∙ ap (λ (h : Held). map.get h.content c.args.key.now) c.self.view_is
 
 pub returns-in-Some-Delete : goal.returns-in-Some-Delete
