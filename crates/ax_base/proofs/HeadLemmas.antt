@@ -1,5 +1,5 @@
 -- The order of heads decides the order of byte strings.
-use Rattle.std.proofs.Common.{◌≡◌, ℕ, ◌+◌, ◌*◌, ◌<◌, ◌≤◌, zero, suc, List, [], ◌∷◌, inl, inr, refl, sym, ap, ◌∙◌, arith}
+use Rattle.std.proofs.Common.{◌≡◌, ℕ, ◌+◌, ◌*◌, ◌<◌, ◌≤◌, zero, suc, List, [], ◌∷◌, length, inl, inr, refl, sym, ap, ◌∙◌, arith}
 use Rattle.std.proofs.lemmas.Bool.{cases_order}
 use Rattle.std.specs.Cmp.{nat_cmp_is}
 use Rattle.std.specs.declared.cmp.Ordering.{Ordering}
@@ -72,5 +72,40 @@ decided_by_heads a b h g found small fits of_a of_b is differ = elim (cases_orde
   | inr either ↦ elim either [
     | inl below ↦ is ∙ sym (nat_cmp_is h g Less below) ∙ sym (head_less a b small fits (omega arith))
     | inr above ↦ is ∙ sym (nat_cmp_is h g Greater above) ∙ sym (head_greater a b small fits (omega arith))
+  ]
+]
+
+equal_from : (n h : ℕ) (a b : List ℕ) → AreBytes a → AreBytes b → length a ≡ length b → length a ≤ n → head_from h n a ≡ head_from h n b → slice_cmp nat_cmp a b ≡ Equal
+equal_from n h [] [] small fits long most same = refl
+equal_from n h [] (y ∷ ys) small fits long most same = absurd (omega arith)
+equal_from n h (x ∷ xs) [] small fits long most same = absurd (omega arith)
+equal_from zero h (x ∷ xs) (y ∷ ys) small fits long most same = absurd (omega arith)
+equal_from (suc n) h (x ∷ xs) (y ∷ ys) small fits long most same = elim (cases_order x y) [
+  inl tie ↦
+    let moved : head_from (256 * h + x) n ys ≡ head_from (256 * h + y) n ys = ap (λ z. head_from (256 * h + z) n ys) tie in
+    ap (λ o. ordering_then o (slice_cmp nat_cmp xs ys)) (sym (nat_cmp_is x y Equal tie))
+    ∙ equal_from n (256 * h + x) xs ys (tail x xs small) (tail y ys fits) (omega arith) (omega arith) (omega arith)
+  | inr either ↦ elim either [
+    inl below ↦
+      let byte : x < 256 = first x xs small in
+      let more : head_from (256 * h + x) n xs < head_from (256 * h + y) n ys = stays_less n (256 * h + x) (256 * h + y) xs ys (tail x xs small) (omega arith) in
+      absurd (omega arith)
+    | inr above ↦
+      let byte : y < 256 = first y ys fits in
+      let more : head_from (256 * h + y) n ys < head_from (256 * h + x) n xs = stays_less n (256 * h + y) (256 * h + x) ys xs (tail y ys fits) (omega arith) in
+      absurd (omega arith)
+  ]
+]
+
+equal_heads : (a b : List ℕ) → AreBytes a → AreBytes b → length a ≡ length b → length a ≤ 8 → head_of a ≡ head_of b → slice_cmp nat_cmp a b ≡ Equal
+equal_heads a b small fits long most same = equal_from 8 0 a b small fits long most same
+
+-- at most eight bytes are known by their head and their length
+pub known_by_heads : (a b : List ℕ) (h g : ℕ) (found : Ordering) → AreBytes a → AreBytes b → h ≡ head_of a → g ≡ head_of b → found ≡ nat_cmp h g → found ≡ Equal → length a ≡ length b → length a ≤ 8 → Equal ≡ slice_cmp nat_cmp a b
+known_by_heads a b h g found small fits of_a of_b is equal long most = elim (cases_order h g) [
+  inl tie ↦ sym (equal_heads a b small fits long most (omega arith))
+  | inr either ↦ elim either [
+    inl below ↦ let other : Less ≡ nat_cmp h g = nat_cmp_is h g Less below in absurd (cc)
+    | inr above ↦ let other : Greater ≡ nat_cmp h g = nat_cmp_is h g Greater above in absurd (cc)
   ]
 ]

@@ -34,7 +34,8 @@ pub fn note_bytes(bytes: &[u8])
 {}
 
 /// How two byte strings compare, byte by byte, where a string comes before those that it begins.
-/// `head_a` and `head_b` are their heads: the bytes are looked at only where these are equal.
+/// `head_a` and `head_b` are their heads. The bytes are looked at only where these are equal, and
+/// not where both strings have the same length, at most 8.
 pub fn cmp_by_heads(head_a: u64, a: &[u8], head_b: u64, b: &[u8]) -> Ordering
     requires head_of_a { head_a ≡ head_of a.now }
     requires head_of_b { head_b ≡ head_of b.now }
@@ -43,6 +44,7 @@ pub fn cmp_by_heads(head_a: u64, a: &[u8], head_b: u64, b: &[u8]) -> Ordering
     note_bytes(a);
     note_bytes(b);
     match head_a.cmp(&head_b) {
+        Ordering::Equal if a.len() == b.len() && a.len() <= 8 => Ordering::Equal,
         Ordering::Equal => a.cmp(b),
         found => found,
     }

@@ -6,7 +6,7 @@ ghost use Rattle.std.specs.Cmp.{partial_equiv_from_equiv};
 ghost use Rattle.std.specs.Cmp.Lexicographic.{pointwise, slice_cmp, nat_list_eq_equiv, nat_list_cmp_total, texts_ties, texts_po};
 ghost use Rattle.ax_keys.specs.Keys.{is_key, is_key_byte};
 
-use ax_base::{Duplicate, ListOf, NoMemory};
+use ax_base::{Duplicate, ListOf, NoMemory, cmp_by_heads, head_of};
 use std::alloc::Global;
 use std::cmp::Ordering;
 use std::marker::Model;
@@ -15,6 +15,8 @@ use std::marker::Model;
 /// where their bytes are, and ordered by their bytes: a key comes before those that it begins.
 #[derive(Debug, Drop)]
 pub struct Key {
+    // The first eight bytes as one number, by which most keys are told apart with no look at the bytes.
+    head: u64,
     bytes: Vec<u8>,
 }
 
@@ -23,13 +25,14 @@ pub type Keys = ListOf<Key>;
 
 impl Model for Key {
     ghost use Rattle.std.specs.Prelude.{◌≡◌, ℕ, List, true};
+    ghost use Rattle.ax_base.specs.Heads.{head_of};
     ghost use Rattle.ax_keys.specs.Keys.{is_key};
 
     ghost Value = { List ℕ };
 
     ghost view = { λ k. k.bytes.items };
 
-    ghost invariant = { λ k. is_key k.bytes.items ≡ true };
+    ghost invariant = { λ k. (is_key k.bytes.items ≡ true) × (k.head ≡ head_of k.bytes.items) };
 }
 
 // Whether a byte prints and is no space.
@@ -69,7 +72,10 @@ impl Key {
             return Ok(None);
         }
         match Vec::from_slice(alloc, word) {
-            Ok(bytes) => Ok(Some(Key { bytes })),
+            Ok(bytes) => Ok(Some(Key {
+                head: head_of(word),
+                bytes,
+            })),
             Err(_) => Err(NoMemory),
         }
     }
@@ -86,7 +92,10 @@ impl Key {
 impl Duplicate for Key {
     fn copy(&self, alloc: Global) -> Result<Key, NoMemory> {
         match Vec::from_slice(alloc, self.as_bytes()) {
-            Ok(bytes) => Ok(Key { bytes }),
+            Ok(bytes) => Ok(Key {
+                head: self.head,
+                bytes,
+            }),
             Err(_) => Err(NoMemory),
         }
     }
@@ -98,7 +107,7 @@ impl PartialEq for Key {
     ghost laws = { partial_equiv_from_equiv nat_list_eq_equiv };
 
     fn eq(&self, other: &Key) -> bool {
-        self.bytes == other.bytes
+        self.head == other.head && self.bytes == other.bytes
     }
 }
 
@@ -126,6 +135,6 @@ impl Ord for Key {
     ghost matches_eq = { texts_ties };
 
     fn cmp(&self, other: &Key) -> Ordering {
-        self.bytes.cmp(&other.bytes)
+        cmp_by_heads(self.head, &self.bytes, other.head, &other.bytes)
     }
 }

@@ -47,16 +47,18 @@ pub fn put(by_time: &mut ByTime, held: &mut Held, time: &i64) -> Result<(), NoMe
     Err(NoMemory)
 }
 
-// Takes a timer off.
+// Takes a timer off. Where the key has none at the time, the timers by time are not looked at.
 pub fn cut(by_time: &mut ByTime, held: &mut Held, time: &i64)
+    requires same { contains due_order by_time.old (time.now, held.old.number) ≡ contains int_cmp held.old.times time.now }
     ensures number { held.new.number ≡ held.old.number }
     ensures rising { sorted.IsOrdered int_cmp held.new.times }
     ensures times { held.new.times.keys ≡ remove_key (is_at (int_cmp time.now)) held.old.times.keys }
     ensures has { MakesTime false time.now held.old.times held.new.times }
     ensures due { Makes false time.now held.old.number by_time.old by_time.new }
 {
-    held.times.remove(time);
-    by_time.remove(&(*time, held.number));
+    if held.times.remove(time) {
+        by_time.remove(&(*time, held.number));
+    }
 }
 
 // Takes the first timer off.

@@ -1,4 +1,4 @@
-use Rattle.std.proofs.Common.{◌≡◌, ◌∙◌, None, ap, subst}
+use Rattle.std.proofs.Common.{◌≡◌, ◌∙◌, None, ap, refl, subst}
 use Rattle.std.specs.BTreeMap.{get, keys}
 use mathlib.Core.Path.{fun_ext}
 use Rattle.ax_text.specs.Programs.{untouched}
@@ -7,7 +7,7 @@ use Rattle.ax_machine.specs.Entries.{Key}
 use Rattle.ax_machine.specs.Sync.{Plain, knows}
 use Rattle.ax_lang.specs.Shown.{shown_kinds}
 use Rattle.ax_plain.specs.Plain.{map_of}
-use Rattle.ax_plain.proofs.ThreadLemmas.{held_plain, plain}
+use Rattle.ax_plain.proofs.ThreadLemmas.{held_plain, plain, ran_fits}
 use Rattle.ax_plain.proofs.plain.PlainThread.hold.Goals as goal
 
 pub returns-in-Ok-clause-knows : goal.returns-in-Ok-clause-knows
@@ -24,3 +24,7 @@ returns-in-Ok-clause-knows c =
 
 pub returns-in-Ok-clause-others : goal.returns-in-Ok-clause-others
 returns-in-Ok-clause-others c = λ q e. ap (λ (x : Plain). x.map q) (returns-in-Ok-clause-knows c)
+
+pub returns-in-Ok-clause-fits : goal.returns-in-Ok-clause-fits
+returns-in-Ok-clause-fits c = ran_fits (shown_kinds c.args.program.now) c.args.self.now.states c.insert.new.self c.args.self.now.timers c.args.self.now.timers c.in_ok-key.key c.in_ok-cells.cells
+    (c.in-Ok.ensures.updates).0 (c.in_ok-cells.ensures.kinds ∙ c.decls.ensures.kinds) c.requires.fits (λ q e. refl)
