@@ -4,3 +4,4 @@ pub mod WordLemmas
 pub mod WindowLemmas
 pub mod PieceLemmas
 pub mod GatherLemmas
+pub mod HeadLemmas

@@ -1,14 +1,16 @@
 -- The value of digits, capped.
-use Rattle.std.proofs.Common.{◌≡◌, ℕ, ◌+◌, ◌-◌, ◌*◌, ◌/◌, ◌%◌, ◌^◌, ◌<◌, ◌≤◌, suc, Option, Some, None, true, false, cond, length, get_or, drop, min, List, [], ◌∷◌, ◌++◌, refl, sym, ap, ◌∙◌, arith}
+use Rattle.std.proofs.Common.{◌≡◌, ℕ, ◌+◌, ◌-◌, ◌*◌, ◌/◌, ◌%◌, ◌^◌, ◌<◌, ◌≤◌, zero, suc, Option, Some, None, true, false, cond, length, get_or, drop, min, List, [], ◌∷◌, ◌++◌, refl, sym, ap, ◌∙◌, subst, arith}
 use Rattle.std.proofs.lemmas.List.{at_drop_more, length-append}
 use Rattle.std.proofs.lemmas.List.Folds.{list_all-append}
 use Rattle.std.proofs.lemmas.Fmt.{decimal_by_steps}
+use Rattle.std.proofs.lemmas.Bool.{leb-true, lt-ltb}
 use Rattle.std.proofs.lemmas.Bool.Decides.{nat_tests}
+use Rattle.std.proofs.lemmas.Option.{none-some}
 use Rattle.std.specs.Fmt.{decimal, signed_decimal}
 use Rattle.std.specs.List.{list_all}
-use Rattle.std.specs.Prelude.{◌&&◌, ℤ, pos, negsuc, nat_lt, nat_le, ◌==◌}
+use Rattle.std.specs.Prelude.{◌&&◌, Bool, ℤ, pos, negsuc, neg_ℤ, nat_lt, nat_le, ◌==◌, if◌then◌else◌}
 use lib.Signed.{mag}
-use Rattle.ax_base.specs.Numbers.{value_from, is_digit, unsigned_by, positive, negative, number_of}
+use Rattle.ax_base.specs.Numbers.{value_from, is_digit, are_digits, is_number, unsigned_by, positive, negative, number_of}
 
 -- a number may be capped before the digits that follow it
 pub min-value_from-min : (cap m : ℕ) (bs : List ℕ) → min (value_from (min m cap) bs) cap ≡ min (value_from m bs) cap
@@ -76,3 +78,33 @@ number_of-signed_decimal (negsuc n) small =
     let fits : nat_le (suc n) (2 ^ 63) ≡ true = grind (arith, nat_tests) in
     unsigned-spelled negative (suc n) (decimal (suc n)) (Spells-decimal (suc n) (omega arith))
     ∙ ap (λ t. cond t (Some (negsuc n)) None) fits
+
+positive_fits : (n : ℕ) (z : ℤ) → positive n ≡ Some z → is_number z ≡ true
+positive_fits n z h = cases (nat_lt n (2 ^ 63)) refl h where
+  cases : (b : Bool) → nat_lt n (2 ^ 63) ≡ b → (if b then Some (pos n) else None) ≡ Some z → is_number z ≡ true
+  cases true e g = subst (λ (o : Option ℤ). elim o as (λ o. Type 0) [ None ↦ Unit {0} | Some y ↦ is_number y ≡ true ]) g e
+  cases false e g = absurd (none-some z g)
+
+below_least : (n : ℕ) → nat_le n (2 ^ 63) ≡ true → is_number (neg_ℤ (pos n)) ≡ true
+below_least zero h = refl
+below_least (suc n) h = let low : suc n ≤ 2 ^ 63 = leb-true (suc n) (2 ^ 63) h in lt-ltb n (2 ^ 63) (omega arith)
+
+negative_fits : (n : ℕ) (z : ℤ) → negative n ≡ Some z → is_number z ≡ true
+negative_fits n z h = cases (nat_le n (2 ^ 63)) refl h where
+  cases : (b : Bool) → nat_le n (2 ^ 63) ≡ b → (if b then Some (neg_ℤ (pos n)) else None) ≡ Some z → is_number z ≡ true
+  cases true e g = subst (λ (o : Option ℤ). elim o as (λ o. Type 0) [ None ↦ Unit {0} | Some y ↦ is_number y ≡ true ]) g (below_least n e)
+  cases false e g = absurd (none-some z g)
+
+unsigned_fits : (f : ℕ → Option ℤ) (bs : List ℕ) (z : ℤ) → ((n : ℕ) → f n ≡ Some z → is_number z ≡ true) → unsigned_by f bs ≡ Some z → is_number z ≡ true
+unsigned_fits f bs z g h = cases (are_digits bs) h where
+  cases : (b : Bool) → (if b then f (value_from 0 bs) else None) ≡ Some z → is_number z ≡ true
+  cases true e = g (value_from 0 bs) e
+  cases false e = absurd (none-some z e)
+
+-- a word spells a number of 64 bits
+pub number_fits : (w : List ℕ) (z : ℤ) → number_of w ≡ Some z → is_number z ≡ true
+number_fits [] z h = absurd (none-some z h)
+number_fits (b ∷ bs) z h = cases (b == 45) h where
+  cases : (t : Bool) → (if t then unsigned_by negative bs else unsigned_by positive (b ∷ bs)) ≡ Some z → is_number z ≡ true
+  cases true e = unsigned_fits negative bs z (λ n. negative_fits n z) e
+  cases false e = unsigned_fits positive (b ∷ bs) z (λ n. positive_fits n z) e

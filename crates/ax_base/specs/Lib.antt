@@ -3,6 +3,7 @@ pub mod Outside
 pub mod Sinks
 pub mod Numbers
 pub mod Words
+pub mod Heads
 pub mod Pieces
 pub mod Lines
 pub mod Given

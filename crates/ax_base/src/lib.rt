@@ -7,6 +7,7 @@
 //! - `memory` and `stream`: sources and sinks in memory, and over a reader or a writer.
 //! - `lists`: `ListOf`, which contracts see as the list of its elements.
 //! - `numbers` and `words`: signed decimal numbers of 64 bits, and the words of a line.
+//! - `heads`: the first eight bytes of a byte string as one number, and comparing by it.
 //! - `lines`: the lines of a source. The lines that bytes have are defined in `specs/Pieces.antt`.
 //!
 //! The private modules `window` and `find` hold the bytes that were read and not yet given, and
@@ -15,6 +16,7 @@
 
 mod find;
 pub mod gather;
+pub mod heads;
 pub mod laws;
 pub mod lines;
 pub mod lists;
@@ -26,6 +28,7 @@ mod window;
 pub mod words;
 
 pub use gather::{Begun, Gather, Room};
+pub use heads::{cmp_by_heads, head_of};
 pub use lines::{Line, LineFault, Lines};
 pub use lists::{Bytes, Duplicate, ListOf, Nums, Pair, Pairs};
 pub use memory::{MemSink, MemSource, SureSink, SureSource};

@@ -1,4 +1,6 @@
 //! The top call: all that the program does, over any source and sinks.
+//!
+//! `Options`, `WordFault` and `read_words` are those of `ax_words`.
 #![tactic(auto)]
 
 mod fault_line;
@@ -10,3 +12,5 @@ pub use fault_line::write_fault_line;
 pub use program::run_program;
 pub use run::run_alone;
 pub use status::Status;
+
+pub use ax_words::{Options, WordFault, read_words};

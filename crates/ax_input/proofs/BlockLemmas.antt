@@ -1,19 +1,20 @@
 -- Blocks of good parts are lines that are spelled.
-use Rattle.std.proofs.Common.{◌≡◌, refl, sym, ap, subst, ◌∙◌, ℕ, ◌+◌, ◌^◌, ◌<◌, ◌≤◌, ℤ, Bool, true, false, ◌&&◌, cond, List, [], ◌∷◌, ◌++◌, length, length-append, map, Option, None, Some, Ordering, Less, Equal, Greater, arith, nat_lt}
+use Rattle.std.proofs.Common.{◌≡◌, refl, ap, ◌∙◌, ℕ, ◌+◌, ◌^◌, ◌<◌, ◌≤◌, ℤ, Bool, true, ◌&&◌, List, [], ◌∷◌, ◌++◌, length, length-append, None, Some, Ordering, Less, Equal, Greater, arith, nat_lt}
 use Rattle.std.specs.List.{list_all, AllByRecursion}
 use Rattle.std.specs.Ordering.{match_ordering}
 use Rattle.std.specs.BTreeMap.{insert_entry}
 use Rattle.std.proofs.lemmas.Bool.{and_parts, and_from, lt-ltb}
 use Rattle.std.proofs.lemmas.List.Folds.{list_all-append}
+use Rattle.ax_base.specs.Numbers.{is_number}
 use Rattle.ax_keys.specs.Keys.{is_key}
 use Rattle.ax_text.specs.Names.{is_name}
 use Rattle.ax_text.specs.Cells.{Cell, Value as ValueCell, Cells}
 use Rattle.ax_text.specs.Programs.{State}
-use Rattle.ax_text.specs.Valid.{is_number, names_of}
+use Rattle.ax_text.specs.Valid.{names_of}
 use Rattle.ax_machine.specs.Entries.{Key, Entry, Watermark, Block, entry_text, text_of}
 use Rattle.ax_machine.specs.Entries as entry
-use Rattle.ax_machine.specs.OutLines.{OutLine, Out, Mark, Head, Value, Item, Entry as EntryLine, Timer, End, line_of, spelled, lines_text}
-use Rattle.ax_machine.specs.Blocks.{Part, block_cmp, placed_from, placed, value_lines, cell_lines, state_lines, timer_lines, part_lines, inner_lines, framed, block_text}
+use Rattle.ax_machine.specs.OutLines.{OutLine, Out, Mark, Head, Value, Timer, End, line_of, spelled, lines_text}
+use Rattle.ax_machine.specs.Blocks.{Part, block_cmp, placed_from, placed, cell_lines, state_lines, timer_lines, part_lines, inner_lines, framed, block_text}
 use Rattle.ax_input.specs.OutLines.{is_place, is_line}
 use Rattle.ax_input.specs.Laws.{is_of_key, IsBlock, IsPlain}
 use Rattle.ax_input.proofs.RunLemmas.{cell_good, GoodState}

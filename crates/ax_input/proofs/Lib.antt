@@ -6,3 +6,4 @@ pub mod ValueLemmas
 pub mod RunLemmas
 pub mod BlockLemmas
 pub mod PlainLemmas
+pub mod ReadLemmas

@@ -7,14 +7,14 @@ use Rattle.std.proofs.lemmas.Fmt.{length_signed_le, length-decimal-le}
 use Rattle.std.specs.List.{list_all}
 use Rattle.std.specs.Option.{is_none}
 use Rattle.std.specs.Fmt.{decimal, signed_decimal}
-use Rattle.ax_base.specs.Numbers.{number_of}
+use Rattle.ax_base.specs.Numbers.{number_of, is_number}
 use Rattle.ax_base.specs.Lines.{no_feed}
 use Rattle.ax_base.specs.Pieces.{is_too_long}
 use Rattle.ax_base.proofs.PieceLemmas.{pieces_of-line}
 use Rattle.ax_keys.specs.Keys.{is_key, is_key_byte}
 use Rattle.ax_syntax.specs.Words.{Word, keyword_of, is_letter, is_name_byte, is_lettered, is_value_word, is_name}
 use Rattle.ax_machine.specs.Events.{Event, Row, Mark as MarkEvent, Barrier}
-use Rattle.ax_input.specs.Spellings.{is_number, numbers_of, both}
+use Rattle.ax_input.specs.Spellings.{numbers_of, both}
 use Rattle.ax_input.specs.Events.{Good, Bad, event_of, event_by, row_by, row_with, mark_with, is_id, barrier_with, event_words, event_line, is_event, is_blank_or_comment}
 use Rattle.ax_machine.specs.OutLines.{OutLine, Out, Mark, Head, Value, Item, Entry, Timer, End, line_words, line_of, behind_spaces}
 use Rattle.ax_input.specs.OutLines.{is_few, when, out_by, mark_by, head_by, is_place, value_by, item_by, entry_by, timer_by, end_by, out_line_of, is_line}

@@ -1,35 +1,33 @@
 -- What the plain thread of a valid program writes for events that lines spell, and what may be written in its place.
-use Rattle.std.proofs.Common.{◌≡◌, refl, sym, ap, subst, ◌∙◌, ℕ, zero, suc, ◌*◌, ◌^◌, ◌<◌, ℤ, int_le, int_lt, Bool, true, false, ◌&&◌, cond, if◌then◌else◌, List, [], ◌∷◌, ◌++◌, length, Option, None, Some, Ordering, Less, Equal, Greater, slice_index_or, nat_le}
+use Rattle.std.proofs.Common.{◌≡◌, refl, sym, subst, ℕ, zero, suc, ◌*◌, ◌^◌, ◌<◌, ℤ, int_le, int_lt, Bool, true, false, ◌&&◌, cond, if◌then◌else◌, List, [], ◌∷◌, ◌++◌, length, Option, None, Some, Ordering, Less, Equal, Greater, slice_index_or, nat_le}
 use Rattle.std.specs.List.{list_all, AllByRecursion}
 use Rattle.std.specs.Str.{bytes_eq}
 use Rattle.std.specs.Ordering.{match_ordering, is_lt}
 use Rattle.std.specs.BTreeSet.{insert_key}
 use Rattle.std.proofs.lemmas.Bool.{and_parts, and_from}
+use Rattle.ax_base.specs.Numbers.{is_number}
 use Rattle.ax_keys.specs.Keys.{is_key, key_cmp}
 use Rattle.ax_text.specs.declared.vocabulary.Kind.TheVariants as kind
-use Rattle.ax_text.specs.declared.vocabulary.Handler.TheVariants as handler
 use Rattle.ax_text.specs.Times.{later_times}
 use Rattle.ax_text.specs.KeyStates.{KeyState}
 use Rattle.ax_text.specs.Run.{World, state_after, begun}
 use Rattle.ax_text.specs.Texts.{Text}
 use Rattle.ax_text.specs.Programs.{Program, kinds_of, text_or_stop}
-use Rattle.ax_text.specs.Jobs.{Job, row_job, firing_job, text_for, job_run}
-use Rattle.ax_text.specs.Valid.{is_number, text_fits, timer_fits, IsValid}
+use Rattle.ax_text.specs.Jobs.{row_job, firing_job, job_run}
+use Rattle.ax_text.specs.Valid.{text_fits, timer_fits, IsValid}
 use Rattle.ax_machine.specs.Entries.{Key, Marker, Watermark, Block, Entry, says, lines_of, text_of}
 use Rattle.ax_machine.specs.Entries as entry
 use Rattle.ax_machine.specs.Events.{Event, Row, Mark, Barrier}
-use Rattle.ax_machine.specs.OutLines.{Out, Mark as MarkLine}
-use Rattle.ax_machine.specs.Blocks.{Part}
+use Rattle.ax_machine.specs.OutLines.{Out}
 use Rattle.ax_machine.specs.Firings.{Due, most_firings, due_of, due_cmp, candidate, earlier, next_due, one_less}
-use Rattle.ax_machine.specs.Sync.{Map, Plain, put_at, does, knows, without_least, fire, fire_next, fire_all, all_fired, at_watermark, writes, parts_of, block_of, plain_step, plain_steps, plain_start, sync}
-use Rattle.ax_machine.specs.Lawful.{IsPrefix, Cut, one_more, cuts_from, cuts, markers, LawfulSoFar}
+use Rattle.ax_machine.specs.Sync.{Map, Plain, does, knows, without_least, fire, fire_next, fire_all, all_fired, at_watermark, writes, parts_of, block_of, plain_step, plain_steps, plain_start, sync}
+use Rattle.ax_machine.specs.Lawful.{IsPrefix, one_more, cuts_from, cuts, markers}
 use Rattle.ax_machine.proofs.FiringLemmas.{same_key, key_is}
 use Rattle.ax_input.specs.Events.{is_event, is_id}
-use Rattle.ax_input.specs.OutLines.{is_few, is_line}
-use Rattle.ax_input.specs.PlainEntries.{IsRun, IsShort, WritesPlain, SoFarIsPlain, WholeIsPlain, BytesTell}
+use Rattle.ax_input.specs.OutLines.{is_line}
+use Rattle.ax_input.specs.PlainEntries.{IsRun, WritesPlain, SoFarIsPlain, WholeIsPlain, BytesTell}
 use Rattle.ax_input.proofs.EntryLemmas.{determined}
-use Rattle.ax_input.proofs.ValueLemmas.{AreNumbers}
-use Rattle.ax_input.proofs.RunLemmas.{cell_good, line_good, GoodWorld, GoodState, run_good, begun_good, empty_good, after_good}
+use Rattle.ax_input.proofs.RunLemmas.{line_good, GoodWorld, GoodState, run_good, begun_good, empty_good, after_good}
 use Rattle.ax_input.proofs.BlockLemmas.{GoodPart, IsNear, block_near, all_plain}
 
 record GoodPlain (s : Plain) : Type 0 where

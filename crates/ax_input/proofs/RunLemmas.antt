@@ -1,23 +1,24 @@
 -- What a run of a valid program leaves has 64 bits.
-use Rattle.std.proofs.Common.{◌≡◌, refl, sym, ap, subst, ◌∙◌, ℕ, ◌≤◌, ℤ, pos, Bool, true, false, ◌&&◌, nat_le, nat_eq, cond, if◌then◌else◌, List, [], ◌∷◌, ◌++◌, length, map, Option, None, Some, Ordering, Less, Equal, Greater}
+use Rattle.std.proofs.Common.{◌≡◌, refl, sym, subst, ◌∙◌, ℕ, ℤ, Bool, true, false, ◌&&◌, nat_le, nat_eq, cond, if◌then◌else◌, List, [], ◌∷◌, ◌++◌, length, map, None, Some, Ordering, Less, Equal, Greater}
 use Rattle.std.specs.List.{list_all, filter}
 use Rattle.std.specs.Ordering.{int_cmp, int_eq, match_ordering}
 use Rattle.std.specs.Prelude.{not}
 use Rattle.std.proofs.lemmas.Bool.{and_parts, and_from}
 use Rattle.std.proofs.lemmas.List.{length-map}
 use Rattle.std.proofs.lemmas.List.Folds.{list_all-append}
+use Rattle.ax_base.specs.Numbers.{is_number}
 use Rattle.ax_text.specs.declared.vocabulary.Kind.{Kind}
 use Rattle.ax_text.specs.declared.vocabulary.Kind.TheVariants as kind
 use Rattle.ax_text.specs.declared.vocabulary.TimerOp.{TimerOp}
 use Rattle.ax_text.specs.declared.vocabulary.TimerOp.TheVariants as timer
 use Rattle.ax_text.specs.Exprs.{Expr, Facts, Names, value}
 use Rattle.ax_text.specs.Cells.{Cell, Value, Cells, number_in, empty_cell, found}
-use Rattle.ax_text.specs.Times.{insert_time, remove_time}
+use Rattle.ax_text.specs.Times.{insert_time}
 use Rattle.ax_text.specs.Texts.{Quiet, Emit, Timer, Untimer, Asking, Get, Put, Text, Stop, Act, Ask}
 use Rattle.ax_text.specs.Functions.{upd}
 use Rattle.ax_text.specs.KeyStates.{KeyState}
-use Rattle.ax_text.specs.Run.{World, Talk, number_or, act_in, ask_in, run, begun, time_after, times_after, state_after}
-use Rattle.ax_text.specs.Valid.{is_number, has_kind, expr_fits, quiet_fits, asking_fits, text_fits}
+use Rattle.ax_text.specs.Run.{World, number_or, act_in, ask_in, run, begun, time_after, times_after, state_after}
+use Rattle.ax_text.specs.Valid.{has_kind, expr_fits, quiet_fits, asking_fits, text_fits}
 use Rattle.ax_input.specs.OutLines.{is_few}
 use Rattle.ax_input.proofs.ValueLemmas.{AreNumbers, value_number}
 

@@ -8,13 +8,13 @@ use Rattle.std.proofs.lemmas.Str.Parse.{IsDigitsTest, FoldsDigits, IsNumeralMode
 use Rattle.std.specs.List.{list_all}
 use Rattle.std.specs.Fmt.{decimal, signed_decimal}
 use Rattle.std.specs.Int.{IsInRange}
-use Rattle.ax_base.specs.Numbers.{is_digit, value_from, are_digits, positive, negative, unsigned_by, number_of}
+use Rattle.ax_base.specs.Numbers.{is_digit, value_from, are_digits, positive, negative, unsigned_by, number_of, is_number}
 use Rattle.ax_base.specs.Words.{is_space, words_from, words_of, before_words}
 use Rattle.ax_base.specs.Lines.{no_feed}
 use Rattle.ax_base.proofs.PieceLemmas.{no_feed-append}
 use Rattle.ax_syntax.specs.Words.{Word}
 use Rattle.ax_machine.specs.OutLines.{behind_spaces, spaced}
-use Rattle.ax_input.specs.Spellings.{is_number, onto_some, numbers_of}
+use Rattle.ax_input.specs.Spellings.{onto_some, numbers_of}
 
 -- a byte above the space
 abbrev pub is_ink : ℕ → Bool

@@ -1,18 +1,19 @@
 -- Values of expressions have 64 bits.
-use Rattle.std.proofs.Common.{◌≡◌, refl, sym, ap, subst, ℕ, zero, suc, ◌+◌, ◌-◌, ◌*◌, ◌/◌, ◌%◌, ◌^◌, ◌<◌, ◌≤◌, ℤ, pos, negsuc, neg_ℤ, ◌+ℤ◌, ◌-ℤ◌, ◌*ℤ◌, int_div, int_rem, unsigned_abs, Bool, true, false, ◌&&◌, nat_lt, cond, if◌then◌else◌, List, [], ◌∷◌, slice_index_or, w64, Fits, SFits, to_z, of_z, arith}
+use Rattle.std.proofs.Common.{◌≡◌, refl, sym, subst, ℕ, zero, suc, ◌/◌, ◌^◌, ◌<◌, ◌≤◌, ℤ, pos, negsuc, neg_ℤ, ◌+ℤ◌, ◌-ℤ◌, ◌*ℤ◌, int_div, int_rem, unsigned_abs, Bool, true, false, if◌then◌else◌, List, [], ◌∷◌, slice_index_or, w64, Fits, SFits, to_z, of_z, arith}
 use Rattle.std.specs.List.{list_all}
 use Rattle.std.specs.Int.{int_wrap, int_wrapping_add, int_wrapping_sub, int_wrapping_mul, int_wrapping_div}
 use Rattle.std.specs.Ordering.{int_eq}
 use Rattle.std.proofs.Math.Facts.{sfits_to_z}
 use Rattle.std.proofs.Math.Nat.{div-le_self}
 use Rattle.std.proofs.lemmas.Int.{wrapping_add_is, wrapping_sub_is, wrapping_mul_is, SFits-int_wrap, rem_below}
-use Rattle.std.proofs.lemmas.Bool.{and_parts, and_from, lt-ltb, ltb-true}
+use Rattle.std.proofs.lemmas.Bool.{and_parts, lt-ltb, ltb-true}
+use Rattle.ax_base.specs.Numbers.{is_number}
 use Rattle.ax_text.specs.declared.vocabulary.Op.{Op}
 use Rattle.ax_text.specs.declared.vocabulary.Op.TheVariants as op
 use Rattle.ax_text.specs.declared.vocabulary.Atom.{Atom}
 use Rattle.ax_text.specs.declared.vocabulary.Atom.TheVariants as atom
 use Rattle.ax_text.specs.Exprs.{Expr, Leaf, Join, Facts, Names, flag, apply_op, atom_value, value}
-use Rattle.ax_text.specs.Valid.{is_number, atom_fits, expr_fits}
+use Rattle.ax_text.specs.Valid.{atom_fits, expr_fits}
 
 sfits_of : (z : ℤ) → is_number z ≡ true → SFits w64 z
 sfits_of (pos n) h = record { sfits = ltb-true n (2 ^ 63) h }

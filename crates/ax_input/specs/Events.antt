@@ -3,13 +3,13 @@ use Rattle.std.specs.Prelude.{ℕ, ℤ, pos, List, [], ◌∷◌, ◌++◌, leng
 use Rattle.std.specs.List.{list_all}
 use Rattle.std.specs.Fmt.{signed_decimal}
 use lib.Chars.{codes}
-use Rattle.ax_base.specs.Numbers.{number_of}
+use Rattle.ax_base.specs.Numbers.{number_of, is_number}
 use Rattle.ax_base.specs.Words.{words_of}
 use Rattle.ax_keys.specs.Keys.{is_key}
 use Rattle.ax_syntax.specs.Words.{Word, same_word}
 use Rattle.ax_machine.specs.Events.{Event, Row, Mark, Barrier}
 use Rattle.ax_machine.specs.OutLines.{spaced}
-use Rattle.ax_input.specs.Spellings.{is_number, numbers_of}
+use Rattle.ax_input.specs.Spellings.{numbers_of}
 
 -- blank, or the first word begins with `#`
 abbrev pub is_blank_or_comment : List Word → Bool

@@ -2,10 +2,11 @@
 use Rattle.std.specs.Prelude.{ℕ, ◌^◌, ℤ, pos, negsuc, List, [], ◌∷◌, length, Bool, Option, Some, None, if◌then◌else◌, ◌&&◌, nat_le, nat_lt}
 use Rattle.std.specs.List.{list_all}
 use lib.Chars.{codes}
+use Rattle.ax_base.specs.Numbers.{is_number}
 use Rattle.ax_keys.specs.Keys.{is_key}
 use Rattle.ax_syntax.specs.Words.{Word, same_word, is_name}
 use Rattle.ax_machine.specs.OutLines.{OutLine, Out, Mark, Head, Value, Item, Entry, Timer, End}
-use Rattle.ax_input.specs.Spellings.{is_number, numbers_of, one_number, two_numbers}
+use Rattle.ax_input.specs.Spellings.{numbers_of, one_number, two_numbers}
 
 -- from 1 to 16
 abbrev pub is_few : ℕ → Bool

@@ -1,12 +1,7 @@
 -- Which numbers words are.
-use Rattle.std.specs.Prelude.{ℤ, pos, negsuc, ◌^◌, List, [], ◌∷◌, Bool, Option, Some, None, nat_lt}
+use Rattle.std.specs.Prelude.{ℤ, List, [], ◌∷◌, Option, Some, None}
 use Rattle.ax_base.specs.Numbers.{number_of}
 use Rattle.ax_syntax.specs.Words.{Word}
-
--- a number of 64 bits
-abbrev pub is_number : ℤ → Bool
-is_number (pos n) = nat_lt n (2 ^ 63)
-is_number (negsuc n) = nat_lt n (2 ^ 63)
 
 abbrev pub onto_some : Option ℤ → Option (List ℤ) → Option (List ℤ)
 onto_some (Some n) (Some ns) = Some (n ∷ ns)

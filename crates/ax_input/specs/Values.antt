@@ -1,5 +1,5 @@
 -- What the words behind the time of a row are.
-use Rattle.std.specs.Prelude.{◌≡◌, ℕ, List, length, Bool, true, false, ◌==◌, Some, None, Result, Ok, Err}
+use Rattle.std.specs.Prelude.{◌≡◌, ℕ, List, length, false, ◌==◌, Some, None, Result, Ok, Err}
 use Rattle.ax_base.specs.declared.outside.NoMemory.{NoMemory}
 use Rattle.ax_syntax.specs.Words.{Word}
 use Rattle.ax_input.specs.Spellings.{numbers_of}

@@ -1,11 +1,11 @@
 -- Expressions of lines without fault: what they speak of exists.
-use Rattle.std.proofs.Common.{◌≡◌, ◌∙◌, ℕ, zero, suc, ◌+◌, ◌-◌, ◌≤◌, ◌<◌, ◌^◌, ℤ, pos, negsuc, neg_ℤ, List, [], ◌∷◌, map, length, refl, sym, ap, subst, arith, Bool, true, false, not, ◌&&◌, ◌||◌, nat_le, nat_lt, ◌==◌, Option, Some, None, if◌then◌else◌, is_some}
+use Rattle.std.proofs.Common.{◌≡◌, ◌∙◌, ℕ, zero, suc, ◌+◌, ◌-◌, ◌≤◌, ◌<◌, ◌^◌, ℤ, pos, neg_ℤ, List, [], ◌∷◌, map, length, refl, sym, ap, subst, arith, Bool, true, false, not, ◌&&◌, ◌||◌, nat_le, nat_lt, ◌==◌, Option, Some, None, if◌then◌else◌, is_some}
 use Rattle.std.specs.List.{list_all, list_any}
-use Rattle.std.proofs.lemmas.Option.{none-some}
 use Rattle.std.proofs.lemmas.Bool.{and_parts, and_from, leb-true, le-leb, lt-ltb, ltb-true, true≢false, false≢true}
 use Rattle.std.proofs.lemmas.List.{length-map}
 use lib.Chars.{codes}
-use Rattle.ax_base.specs.Numbers.{value_from, are_digits, positive, negative, unsigned_by, number_of}
+use Rattle.ax_base.specs.Numbers.{value_from, are_digits, positive, negative, unsigned_by, number_of, is_number}
+use Rattle.ax_base.proofs.NumberLemmas.{number_fits}
 use Rattle.ax_text.specs.declared.vocabulary.Op.{Op}
 use Rattle.ax_text.specs.declared.vocabulary.Kind.{Kind}
 use Rattle.ax_text.specs.declared.vocabulary.Kind.TheVariants as kind
@@ -16,7 +16,7 @@ use Rattle.ax_text.specs.declared.vocabulary.Keyword.TheVariants as k
 use Rattle.ax_text.specs.Names.{Word, same_word, keyword_of, is_value_word, is_name, mem}
 use Rattle.ax_text.specs.Exprs.{Expr, Leaf, Join}
 use Rattle.ax_text.specs.Texts.{Emit, Timer, Untimer, Get, Put}
-use Rattle.ax_text.specs.Valid.{is_number, has_kind, atom_fits, expr_fits}
+use Rattle.ax_text.specs.Valid.{has_kind, atom_fits, expr_fits}
 use Rattle.ax_syntax.specs.Words.{from_one_to_sixteen, unpadded, field_number, sign_of, is_moment, is_operand}
 use Rattle.ax_syntax.specs.Shapes.{goes_on, is_expr, is_exprs, onto_first, parts_of}
 use Rattle.ax_syntax.proofs.PartLemmas.{parts_of_some}
@@ -163,36 +163,6 @@ unfolding is_expr
 expr_words ws h = words_on ws 0 false h
 
 -- what words say
-
-positive_fits : (n : ℕ) (z : ℤ) → positive n ≡ Some z → is_number z ≡ true
-positive_fits n z h = cases (nat_lt n (2 ^ 63)) refl h where
-  cases : (b : Bool) → nat_lt n (2 ^ 63) ≡ b → (if b then Some (pos n) else None) ≡ Some z → is_number z ≡ true
-  cases true e g = subst (λ (o : Option ℤ). elim o as (λ o. Type 0) [ None ↦ Unit {0} | Some y ↦ is_number y ≡ true ]) g e
-  cases false e g = absurd (none-some z g)
-
-below_least : (n : ℕ) → nat_le n (2 ^ 63) ≡ true → is_number (neg_ℤ (pos n)) ≡ true
-below_least zero h = refl
-below_least (suc n) h = let low : suc n ≤ 2 ^ 63 = leb-true (suc n) (2 ^ 63) h in lt-ltb n (2 ^ 63) (omega arith)
-
-negative_fits : (n : ℕ) (z : ℤ) → negative n ≡ Some z → is_number z ≡ true
-negative_fits n z h = cases (nat_le n (2 ^ 63)) refl h where
-  cases : (b : Bool) → nat_le n (2 ^ 63) ≡ b → (if b then Some (neg_ℤ (pos n)) else None) ≡ Some z → is_number z ≡ true
-  cases true e g = subst (λ (o : Option ℤ). elim o as (λ o. Type 0) [ None ↦ Unit {0} | Some y ↦ is_number y ≡ true ]) g (below_least n e)
-  cases false e g = absurd (none-some z g)
-
-unsigned_fits : (f : ℕ → Option ℤ) (bs : List ℕ) (z : ℤ) → ((n : ℕ) → f n ≡ Some z → is_number z ≡ true) → unsigned_by f bs ≡ Some z → is_number z ≡ true
-unsigned_fits f bs z g h = cases (are_digits bs) h where
-  cases : (b : Bool) → (if b then f (value_from 0 bs) else None) ≡ Some z → is_number z ≡ true
-  cases true e = g (value_from 0 bs) e
-  cases false e = absurd (none-some z e)
-
--- a word spells a number of 64 bits
-pub number_fits : (w : Word) (z : ℤ) → number_of w ≡ Some z → is_number z ≡ true
-number_fits [] z h = absurd (none-some z h)
-number_fits (b ∷ bs) z h = cases (b == 45) h where
-  cases : (t : Bool) → (if t then unsigned_by negative bs else unsigned_by positive (b ∷ bs)) ≡ Some z → is_number z ≡ true
-  cases true e = unsigned_fits negative bs z (λ n. negative_fits n z) e
-  cases false e = unsigned_fits positive (b ∷ bs) z (λ n. positive_fits n z) e
 
 -- a word that names a value
 

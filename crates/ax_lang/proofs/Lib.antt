@@ -7,3 +7,4 @@ pub mod SoundLemmas
 pub mod ShapeLemmas
 pub mod ReadingLemmas
 pub mod TokenLemmas
+pub mod AcceptedLemmas

@@ -97,16 +97,24 @@ pub none_left : (ss : List Stmt) → length ss ≡ 0 → ss ≡ []
 none_left [] h = refl
 none_left (s ∷ ss) h = absurd (omega arith)
 
--- a handler's text fits where its statements do
+-- a row that fits stands before a text that fits
+row_first : (fields locals : ℕ) (ks : List Kind) (r : Statement) (t : Text) → statement_fits fields locals ks r ≡ true → text_fits fields locals ks t ≡ true → text_fits fields locals ks (with_row r t) ≡ true
+row_first fields locals ks (Acts q) t x y = and_from (quiet_fits fields locals q) (text_fits fields locals ks t) x y
+row_first fields locals ks (Asks a) t x y = and_from (asking_fits fields locals ks a) (text_fits fields locals ks t) x y
+
+-- a handler's text fits where its rows do
+pub text_of_fits : (fields locals : ℕ) (ks : List Kind) (rows : List Statement) → list_all (statement_fits fields locals ks) rows ≡ true → text_fits fields locals ks (text_of rows) ≡ true
+text_of_fits fields locals ks [] h = refl
+text_of_fits fields locals ks (r ∷ rs) h =
+    let a = and_parts (statement_fits fields locals ks r) (list_all (statement_fits fields locals ks) rs) h in
+    row_first fields locals ks r (text_of rs) a.0 (text_of_fits fields locals ks rs a.1)
+
+-- so where its statements do
 pub text_fits_rows : (fields locals : ℕ) (ks : List Kind) (stmts : List Stmt) → list_all (whole_fits fields locals ks) stmts ≡ true → text_fits fields locals ks (text_of (map shown_statement stmts)) ≡ true
 text_fits_rows fields locals ks [] h = refl
 text_fits_rows fields locals ks (s ∷ ss) h =
     let a = and_parts (whole_fits fields locals ks s) (list_all (whole_fits fields locals ks) ss) h in
     row_first fields locals ks (shown_statement s) (text_of (map shown_statement ss)) a.0 (text_fits_rows fields locals ks ss a.1)
-  where
-    row_first : (fields locals : ℕ) (ks : List Kind) (r : Statement) (t : Text) → statement_fits fields locals ks r ≡ true → text_fits fields locals ks t ≡ true → text_fits fields locals ks (with_row r t) ≡ true
-    row_first fields locals ks (Acts q) t x y = and_from (quiet_fits fields locals q) (text_fits fields locals ks t) x y
-    row_first fields locals ks (Asks a) t x y = and_from (asking_fits fields locals ks a) (text_fits fields locals ks t) x y
 
 -- what stands at a place of a table fits, behind more steps too
 pub row_linked : (fields locals : ℕ) (ks : List Kind) (stmts : List Stmt) (before after : List Step) (place : ℕ) → list_all (whole_fits fields locals ks) stmts ≡ true → text_at before place ≡ text_of (map shown_statement stmts)

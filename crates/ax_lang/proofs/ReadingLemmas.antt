@@ -12,11 +12,11 @@ use Rattle.ax_lang.specs.Rows.{HandlerRows, no_rows, joined}
 use Rattle.ax_lang.proofs.RowLemmas.{joined_none, joined_assoc}
 use Rattle.ax_lang.specs.Programs.{Reading, Faulty, shape_in, tables_from, tables_of, rows_from, rows_of, after_in, fault_in, rows_in, or_fault, read_from, program_of, ended, TakesLine, ReadsProgram}
 
-tables_last : (ls : List Line) (t : Tables) (l : Line) → tables_from t (ls ++ l ∷ []) ≡ after_in (tables_from t ls) (shape_in l)
+pub tables_last : (ls : List Line) (t : Tables) (l : Line) → tables_from t (ls ++ l ∷ []) ≡ after_in (tables_from t ls) (shape_in l)
 tables_last [] t l = refl
 tables_last (k ∷ ls) t l = tables_last ls (after_in t (shape_in k)) l
 
-rows_last : (ls : List Line) (t : Tables) (l : Line) → rows_from t (ls ++ l ∷ []) ≡ joined (rows_from t ls) (rows_in (tables_from t ls) (shape_in l))
+pub rows_last : (ls : List Line) (t : Tables) (l : Line) → rows_from t (ls ++ l ∷ []) ≡ joined (rows_from t ls) (rows_in (tables_from t ls) (shape_in l))
 rows_last [] t l = joined_none (rows_in t (shape_in l))
 rows_last (k ∷ ls) t l =
     let here : HandlerRows = rows_in t (shape_in k) in

@@ -5,3 +5,4 @@ pub mod Progress
 pub mod Sections
 pub mod Stopped
 pub mod Whole
+pub mod Parsed

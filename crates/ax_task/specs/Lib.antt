@@ -3,3 +3,4 @@ pub mod Parse
 pub mod Clause
 pub mod Reads
 pub mod Passes
+pub mod Laws

@@ -6,7 +6,7 @@ use ax_cli::{Status, run_alone};
 use std::test::Fail;
 
 #[test]
-fn any_word_is_refused_and_nothing_read(rt: HostRuntime) -> Result<(), Fail> {
+fn refused_words_read_nothing(rt: HostRuntime) -> Result<(), Fail> {
     let alloc = rt.alloc();
     for words in [
         ["--mode", "serial"],

@@ -1,6 +1,7 @@
 -- Programs in which everything exists that a statement or an expression speaks of.
-use Rattle.std.specs.Prelude.{◌≡◌, ◌≤◌, ◌^◌, ℕ, ℤ, pos, negsuc, List, length, map, Bool, true, false, not, ◌&&◌, nat_eq, nat_le, nat_lt, Option, None, Some}
+use Rattle.std.specs.Prelude.{◌≡◌, ◌≤◌, ℕ, List, length, map, Bool, true, false, not, ◌&&◌, nat_eq, nat_le, nat_lt, Option, None, Some}
 use Rattle.std.specs.List.{list_all, slice_index_or}
+use Rattle.ax_base.specs.Numbers.{is_number}
 use Rattle.ax_text.specs.declared.vocabulary.Kind.{Kind}
 use Rattle.ax_text.specs.declared.vocabulary.Kind.TheVariants as kind
 use Rattle.ax_text.specs.declared.vocabulary.Atom.{Atom}
@@ -9,11 +10,6 @@ use Rattle.ax_text.specs.Names.{Word, is_name, are_distinct}
 use Rattle.ax_text.specs.Exprs.{Expr, Leaf, Join}
 use Rattle.ax_text.specs.Texts.{Quiet, Let, Emit, Timer, Untimer, Asking, Get, GetAt, Has, Empty, Put, PutAt, PutAll, Add, Remove, Clear, Loop, Items, Entries, Text, Stop, Act, Ask, If, Each, Both}
 use Rattle.ax_text.specs.Programs.{State, Program, kinds_of}
-
--- a number of 64 bits
-abbrev pub is_number : ℤ → Bool
-is_number (pos n) = nat_lt n (2 ^ 63)
-is_number (negsuc n) = nat_lt n (2 ^ 63)
 
 abbrev pub same_kind : Kind → Kind → Bool
 same_kind kind.Value kind.Value = true

@@ -2,6 +2,7 @@
 //!
 //! - `options`: the options, and why words are refused.
 //! - `words`: the reader of the words.
+//! - `laws`: of the table of options.
 //!
 //! The private module `command` tells `clap` which options there are. What the words ask for is
 //! defined in `specs/Words.antt` for any table of options, and in `specs/Options.antt` for the
@@ -9,6 +10,7 @@
 #![tactic(auto)]
 
 mod command;
+pub mod laws;
 pub mod options;
 pub mod words;
 

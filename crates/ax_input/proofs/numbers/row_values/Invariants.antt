@@ -1,4 +1,4 @@
-use Rattle.std.proofs.Common.{◌≡◌, ◌≤◌, ◌+◌, length}
+use Rattle.std.proofs.Common.{◌≡◌, ◌+◌, length}
 use Rattle.ax_base.specs.Words.{words_of}
 use Rattle.ax_input.specs.Spellings.{numbers_of}
 use Rattle.ax_input.proofs.NumberLemmas.{onto}

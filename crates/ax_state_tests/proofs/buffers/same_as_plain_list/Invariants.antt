@@ -1,5 +1,5 @@
 use Rattle.std.proofs.Common.{◌≡◌, length}
-use Rattle.ax_tests.proofs.buffers.same_as_plain_list.Given as goal
+use Rattle.ax_state_tests.proofs.buffers.same_as_plain_list.Given as goal
 
 abbrev pub invariant-loop-line : goal.invariant-loop-line
 invariant-loop-line g l = record {

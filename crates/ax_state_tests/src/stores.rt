@@ -1,6 +1,7 @@
 //! Worked calls of the run store, and a longer run beside std's ordered map.
 ghost use Rattle.std.specs.Prelude.{◌≤◌};
 
+use crate::draws::next_draw;
 use ax_store::RunStore;
 use std::alloc::Global;
 use std::collections::BTreeMap;
@@ -129,9 +130,7 @@ fn mixed_calls(rt: &impl Abort, alloc: Global, most: u32) -> Result<(), Fail>
     let mut map = Plain::new(alloc);
     let mut x = u64::from(most);
     for _ in 0..2500 {
-        x = x
-            .wrapping_mul(6364136223846793005)
-            .wrapping_add(1442695040888963407);
+        x = next_draw(x);
         let text = b"abcdabacbdcaddbccb";
         let start = (x >> 40) % 14;
         let len = (x >> 46) % 4;

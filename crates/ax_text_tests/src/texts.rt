@@ -1,4 +1,5 @@
 //! Worked lines: each form of an event and of an output line both ways, and lines that are none.
+use crate::fills::filled;
 use ax_base::{Bytes, Nums};
 use ax_input::{
     Event, EventFault, OutLine, SnapLine, is_skipped, put_end, put_event, put_head, put_out,
@@ -151,10 +152,7 @@ fn texts_that_are_no_output_line(rt: HostRuntime) -> Result<(), Fail> {
 #[test]
 fn longest_keys(rt: HostRuntime) -> Result<(), Fail> {
     for length in [256, 257] {
-        let mut text = Bytes::from_slice(rt.alloc(), b"t ")?;
-        for _byte in 0..length {
-            text.push(b'k')?;
-        }
+        let mut text = filled(rt.alloc(), b"t ", b'k', length)?;
         text.extend_from_slice(b" 5")?;
         let line = read_out_line(rt.alloc(), text.as_slice())?;
         assert_eq!(rt; line.is_some(), length == 256);

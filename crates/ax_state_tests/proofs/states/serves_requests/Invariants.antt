@@ -1,7 +1,7 @@
 use Rattle.std.proofs.Common.{◌≡◌}
 use Rattle.ax_state.specs.Decls.{kinds}
 use Rattle.ax_state.specs.KeyCells.{cell_kinds}
-use Rattle.ax_tests.proofs.states.serves_requests.Given as goal
+use Rattle.ax_state_tests.proofs.states.serves_requests.Given as goal
 
 abbrev pub invariant-loop-request : goal.invariant-loop-request
 invariant-loop-request g l = record {

@@ -1,4 +1,5 @@
 //! Worked values of keys and key groups.
+use crate::fills::filled;
 use ax_base::Duplicate;
 use ax_keys::{Key, group, index_of_group, range_of_index, spread};
 use std::cmp::Ordering;
@@ -48,14 +49,14 @@ fn groups_and_ranges(rt: HostRuntime) -> Result<(), Fail> {
 
 #[test]
 fn words_that_are_keys(rt: HostRuntime) -> Result<(), Fail> {
-    let longest = vec![in rt.alloc(); b'x'; 256]?;
-    let longer = vec![in rt.alloc(); b'x'; 257]?;
+    let longest = filled(rt.alloc(), b"", b'x', 256)?;
+    let longer = filled(rt.alloc(), b"", b'x', 257)?;
     let cases: [(&[u8], bool); 12] = [
         (b"a", true),
         (b"!~", true),
         (b"a-1#%", true),
-        (&longest, true),
-        (&longer, false),
+        (longest.as_slice(), true),
+        (longer.as_slice(), false),
         (b"", false),
         (b"a ", false),
         (b" a", false),

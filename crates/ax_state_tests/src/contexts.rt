@@ -2,6 +2,7 @@
 ghost use Rattle.std.specs.Prelude.{◌<◌, vec_len};
 ghost use Rattle.ax_context.specs.Slots.{IsLive, IsPaid};
 
+use crate::draws::next_draw;
 use ax_context::{Contexts, Id, Released};
 use std::alloc::AllocError;
 use std::test::Fail;
@@ -121,9 +122,10 @@ fn many_calls(rt: HostRuntime) -> Result<(), Fail> {
     let mut contexts = Contexts::with_limit(rt.alloc(), 6)?;
     let mut seen = Vec::new(rt.alloc());
     let mut number = 1;
-    let mut draw: u32 = 1;
+    let mut drawn: u64 = 1;
     for _step in 0..2000 {
-        draw = draw.wrapping_mul(1103515245).wrapping_add(12345);
+        drawn = next_draw(drawn);
+        let draw = (drawn >> 32) as u32;
         let choice = (draw >> 16) % 8;
         if choice < 2 || seen.len() == 0 {
             make(&mut contexts, &mut seen, draw, &mut number)?;

@@ -2,6 +2,7 @@
 //! for.
 ghost use Rattle.std.specs.Prelude.{None};
 
+use crate::fills::filled;
 use ax_base::lines::{LineFault, Lines};
 use ax_base::lists::{Bytes, Duplicate, ListOf, Nums, Pair, Pairs};
 use ax_base::memory::{MemSink, MemSource, SureSink, SureSource};
@@ -106,13 +107,11 @@ fn second_line(
     limit: u64,
     end: Result<(), LineFault>,
 ) -> Result<(), Fail> {
-    let mut bytes = Bytes::from_slice(alloc, b"a\n")?;
-    let text = vec![in alloc; b'x'; length]?;
-    bytes.extend_from_slice(&text)?;
+    let mut bytes = filled(alloc, b"a\n", b'x', length)?;
     bytes.extend_from_slice(feed)?;
     let mut want = Bytes::from_slice(alloc, b"a|")?;
     if end.is_ok() {
-        want.extend_from_slice(&text)?;
+        want = filled(alloc, b"a|", b'x', length)?;
         want.push(b'|')?;
     }
     gives(rt, alloc, bytes, limit, want.as_slice(), end)

@@ -1,0 +1,19 @@
+//! Tests of the crates that keep something and hand it on: states, timers, contexts, accounts, buffer, mailbox, run store.
+//! Each is driven from outside, beside a plain list or map.
+#![tactic(auto)]
+
+#[cfg(test)]
+mod accounts;
+#[cfg(test)]
+mod buffers;
+#[cfg(test)]
+mod contexts;
+pub mod draws;
+#[cfg(test)]
+mod kept_timers;
+#[cfg(test)]
+mod mailboxes;
+#[cfg(test)]
+mod states;
+#[cfg(test)]
+mod stores;

@@ -1,0 +1,21 @@
+//! Tests of the crates that read and write text: bytes and lines, keys, expressions, programs and their first faults, events,
+//! output lines, snapshot blocks, and the words of the command line.
+#![tactic(auto)]
+
+#[cfg(test)]
+mod exprs;
+pub mod fills;
+#[cfg(test)]
+mod keys;
+#[cfg(test)]
+mod sections;
+#[cfg(test)]
+mod shapes;
+#[cfg(test)]
+mod snapshots;
+#[cfg(test)]
+mod streams;
+#[cfg(test)]
+mod texts;
+#[cfg(test)]
+mod words;
