@@ -19,17 +19,23 @@ use ax_syntax::Shape;
 use std::alloc::Global;
 use std::marker::Model;
 
-/// Which part of a block is open. A handler has a body.
+/// Which part of a block is open.
 #[derive(Clone, Copy, Debug, PartialEq, Eq)]
 pub enum Part {
+    /// Behind an `if`.
     Yes,
+    /// Behind the `else` of an `if`.
     No,
+    /// Behind an `each`, `on row` or `on timer`.
     Body,
+    /// The first arm of a `both`.
     One,
+    /// The second arm of a `both`, behind its `with`.
     Two,
 }
 
-/// What lines touch: local names and states by their numbers.
+/// What lines touch: local names and states by their numbers from 0, in the order in which the handler first assigns its
+/// names and the program declares its states.
 #[derive(Debug, Drop)]
 pub struct Print {
     /// The local names that are assigned.
@@ -42,13 +48,13 @@ pub struct Print {
     pub gets: ListOf<usize>,
 }
 
-/// An open block.
+/// An open block. A width is how many requests of a part may be out together: 0 to 16 where no line has a fault.
 #[derive(Debug, Drop)]
 pub struct Frame {
     pub part: Part,
-    /// Of a `both`, what its first arm touches.
+    /// Of a `both`, what the lines of its first arm touch, each number once; of other blocks nothing.
     pub arm: Print,
-    /// How wide the first part was.
+    /// How wide the first part was, behind an `else` or a `with`; else 0.
     pub first: usize,
     /// How wide this part is so far.
     pub width: usize,

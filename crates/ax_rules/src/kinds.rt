@@ -20,7 +20,8 @@ pub enum FaultKind {
     Kind,
     /// A line inside an arm of a `both` that writes, or sets a timer or takes one off.
     InArm,
-    /// A line of a second arm that assigns, reads, changes or uses what a line of the first arm doesn't let it.
+    /// A line of a second arm, with the first arm of that `both`: one assigns a local name that the other assigns or reads, or
+    /// one changes a state that the other uses.
     Conflict,
     /// An `end` of a `both` of which more than 16 requests may be out together.
     TooWide,
