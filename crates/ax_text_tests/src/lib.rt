@@ -8,6 +8,8 @@ pub mod fills;
 #[cfg(test)]
 mod keys;
 #[cfg(test)]
+mod rules;
+#[cfg(test)]
 mod sections;
 #[cfg(test)]
 mod shapes;

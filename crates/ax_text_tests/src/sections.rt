@@ -14,12 +14,13 @@ fn add(lines: &mut Vec<Line>, text: Bytes) -> Result<(), NoMemory> {
     }
 }
 
-fn add_text(alloc: Global, lines: &mut Vec<Line>, text: &str) -> Result<(), NoMemory> {
+/// A line of this text.
+pub fn add_text(alloc: Global, lines: &mut Vec<Line>, text: &str) -> Result<(), NoMemory> {
     add(lines, ListOf::from_slice(alloc, text.as_bytes())?)
 }
 
-// A line of a word and a number, as `n7`, between two texts.
-fn add_numbered(
+/// A line of a word and a number, as `n7`, between two texts.
+pub fn add_numbered(
     alloc: Global,
     lines: &mut Vec<Line>,
     front: &str,
@@ -32,8 +33,8 @@ fn add_numbered(
     }
 }
 
-// The lines of a text in which `;` ends a line.
-fn section(alloc: Global, text: &str) -> Result<Vec<Line>, NoMemory> {
+/// The lines of a text in which `;` ends a line.
+pub fn section(alloc: Global, text: &str) -> Result<Vec<Line>, NoMemory> {
     let mut lines = Vec::new(alloc);
     let mut line = ListOf::new(alloc);
     for b in text.as_bytes() {
@@ -196,8 +197,8 @@ input 1;on row;emit 1|4 10
 input 1;on row;end;on timer|5 10
 input 1;on row;end;on timer;emit wm|6 10";
 
-// The line and kind that a table names.
-fn named(fault: &str) -> (u64, u8) {
+/// The line and kind that a table names.
+pub fn named(fault: &str) -> (u64, u8) {
     let mut words = fault.split(' ');
     let line = words.next().unwrap_or("").parse::<u64>().unwrap_or(98);
     let kind = words.next().unwrap_or("").parse::<u8>().unwrap_or(98);

@@ -1,0 +1,9 @@
+pub mod Kinds
+pub mod Parts
+pub mod Frames
+pub mod Lines
+pub mod Faults
+pub mod Taking
+pub mod Sections
+pub mod Laws
+pub mod Alike

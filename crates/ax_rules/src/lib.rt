@@ -1,0 +1,18 @@
+//! The rules of a program: whether a line may follow the lines before it, what it adds to them, and the first fault of a
+//! program's section.
+#![tactic(auto)]
+
+mod blocks;
+mod faults;
+mod kinds;
+pub mod laws;
+mod section;
+mod shapes;
+mod tables;
+mod taking;
+
+pub use blocks::{Frame, Frames, Part, Print};
+pub use kinds::FaultKind;
+pub use laws::{arm_law, note_law, pass_law, width_law};
+pub use section::{Reading, SectionEnd, read_section};
+pub use tables::{DeclaredState, Tables};
