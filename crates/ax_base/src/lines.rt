@@ -124,10 +124,30 @@ impl Lines {
         ensures near { StaysNear self.new result }
         ensures waits { IsReadFault result → no_feed self.new.held ≡ true }
     {
+        let room = Bytes::new(self.alloc);
+        self.next_in(input, room)
+    }
+
+    /// The same, where the line's bytes lie in the room of an earlier text, so that memory is taken only for a line that is longer
+    /// than all before it in that room. What the text said doesn't matter, and after any other answer than a line it is gone.
+    pub fn next_in<S: Source>(
+        &mut self,
+        input: &mut S,
+        room: Bytes,
+    ) -> Result<Option<Line>, LineFault>
+        requires { self.old.failed ≡ false }
+        ensures told { Told (S.left input.old) (S.left input.new)
+            (λ a b. Gives (ahead self.old a) (ahead self.new b) (self.new.held ++ b) result) }
+        ensures read_here { ReadsMore (S.left input.old) (S.left input.new) self.old self.new result }
+        ensures steps { Advances self.old self.new result }
+        ensures count { LineCount (S.faults input.old) (S.faults input.new) result }
+        ensures near { StaysNear self.new result }
+        ensures waits { IsReadFault result → no_feed self.new.held ≡ true }
+    {
         match find(&mut self.window, input, self.limit) {
             Ok(None) => Ok(None),
             Ok(Some((text, whole))) => {
-                match Bytes::from_slice(self.alloc, &self.window.as_slice()[..text]) {
+                match put_in(room, &self.window.as_slice()[..text]) {
                     Ok(text) => {
                         self.window.pass(whole);
                         self.limit -= whole as u64;
@@ -160,5 +180,17 @@ impl Lines {
                 })
             }
         }
+    }
+}
+
+// A text in the room of an earlier one.
+fn put_in(room: Bytes, text: &[u8]) -> Result<Bytes, NoMemory>
+    ensures { IfOk result (λ bytes. bytes ≡ text.now) }
+{
+    let mut bytes = room.into_vec();
+    bytes.clear();
+    match bytes.extend_from_slice(text) {
+        Ok(()) => Ok(Bytes::from_vec(bytes)),
+        Err(_) => Err(NoMemory),
     }
 }

@@ -1,6 +1,5 @@
 -- What is left without a run.
 use Rattle.std.proofs.Common.{◌≡◌, ℕ, inl, inr, List, Option, Some, None, refl, sym, subst}
-use Rattle.std.specs.Io.KnownBytes.{Keeps}
 use Rattle.ax_task.proofs.Gathering.{keeps_refl}
 use Rattle.ax_base.specs.Outside.{Counts, Told}
 use Rattle.ax_task.specs.Parse.{Parsed, BadProgram, Runs, parse}

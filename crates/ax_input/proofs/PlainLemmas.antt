@@ -15,7 +15,7 @@ use Rattle.ax_text.specs.Texts.{Text}
 use Rattle.ax_text.specs.Programs.{Program, kinds_of, text_or_stop}
 use Rattle.ax_text.specs.Jobs.{row_job, firing_job, job_run}
 use Rattle.ax_text.specs.Valid.{text_fits, timer_fits, IsValid}
-use Rattle.ax_machine.specs.Entries.{Key, Marker, Watermark, Block, Entry, says, lines_of, text_of}
+use Rattle.ax_machine.specs.Entries.{Key, Marker, Watermark, Entry, says, lines_of}
 use Rattle.ax_machine.specs.Entries as entry
 use Rattle.ax_machine.specs.Events.{Event, Row, Mark, Barrier}
 use Rattle.ax_machine.specs.OutLines.{Out}

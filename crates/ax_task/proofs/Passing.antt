@@ -64,11 +64,13 @@ module _ (fields : ℕ) (last : ℤ) (n : ℕ) (text : List ℕ) (rest : List Pi
   taken read e is = ap (λ t. cond t skips (takes (in_order last (event_of fields text)))) e ∙ ap takes is
 
 -- a skipped line
-pub next_skips : (fields : ℕ) (last : ℤ) (l l' : Option (List ℕ)) (old new : Reader) (line : Line) → ReadsMore l l' old new (Ok (Some line)) → is_skipped line.text ≡ true → new.number ≡ old.number + 1
-    → Told l l' (λ a b. Goes (events_at fields last old) (events_at fields last new) (feed old.held a) (feed new.held b))
-next_skips fields last l l' old new line r e n =
-    line_goes (stream_of fields last (old.number + 1)) (events_at fields last new) l l' old new line r
-    (λ x. skipped fields last (old.number + 1) line.text (pieces_of new.limit x) e ∙ ap (λ k. stream_of fields last (k + 1) (pieces_of new.limit x)) (sym n))
+pub next_skips : (fields fields' : ℕ) (last last' : ℤ) (l l' : Option (List ℕ)) (old new : Reader) (line : Line) → ReadsMore l l' old new (Ok (Some line)) → is_skipped line.text ≡ true → new.number ≡ old.number + 1
+    → fields' ≡ fields → last' ≡ last → Told l l' (λ a b. Goes (events_at fields last old) (events_at fields' last' new) (feed old.held a) (feed new.held b))
+next_skips fields fields' last last' l l' old new line r e n same now =
+    line_goes (stream_of fields last (old.number + 1)) (events_at fields' last' new) l l' old new line r
+    (λ x. skipped fields last (old.number + 1) line.text (pieces_of new.limit x) e ∙ ap (λ k. stream_of fields last (k + 1) (pieces_of new.limit x)) (sym n)
+    ∙ ap (λ v. stream_of fields v (new.number + 1) (pieces_of new.limit x)) (sym now)
+    ∙ ap (λ f. stream_of f last' (new.number + 1) (pieces_of new.limit x)) (sym same))
 
 -- a line with an event
 next_takes : (fields fields' : ℕ) (last last' : ℤ) (l l' : Option (List ℕ)) (old new : Reader) (line : Line) (e : CodeEvent) → ReadsMore l l' old new (Ok (Some line)) → is_skipped line.text ≡ false

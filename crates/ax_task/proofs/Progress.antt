@@ -8,10 +8,10 @@ use Rattle.ax_base.specs.declared.outside.SinkFault.TheVariants as sink
 use Rattle.ax_base.proofs.OutsideLemmas.{Appends-none, Appends-more, Told-trans}
 use Rattle.ax_plain.proofs.RunLemmas.{AppendsSome-none, AppendsSome-all, AppendsSome-behind}
 use Rattle.ax_text.specs.Programs.{Program}
-use Rattle.ax_machine.specs.Entries.{Entry, text_of, lines_of}
+use Rattle.ax_machine.specs.Entries.{Entry, text_of}
 use Rattle.ax_machine.specs.Events.{Event}
 use Rattle.ax_machine.specs.Sync.{Plain, plain_step, plain_start, sync, silent, behind}
-use Rattle.ax_machine.specs.Lawful.{cuts, markers, Lawful, LawfulSoFar, LawfulSoFarFor}
+use Rattle.ax_machine.specs.Lawful.{LawfulSoFar, LawfulSoFarFor}
 use Rattle.ax_machine.proofs.LawfulLemmas.{lawful_itself}
 use Rattle.ax_machine.proofs.FrontLemmas.{lawful_so_far_front, whole_so_far}
 use Rattle.ax_machine.proofs.StepLemmas.{step_behind, steps_append, text_of-append}

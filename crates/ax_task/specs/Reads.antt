@@ -1,5 +1,5 @@
 -- What the readers of lines, of the section and of the events answer.
-use Rattle.std.specs.Prelude.{◌≡◌, ℕ, ◌+◌, ◌≤◌, ◌<◌, List, [], ◌∷◌, ◌++◌, length, Bool, true, false, Option, Some, None, Result, Ok, Err}
+use Rattle.std.specs.Prelude.{◌≡◌, ℕ, ℤ, ◌+◌, ◌≤◌, ◌<◌, List, [], ◌∷◌, ◌++◌, length, Bool, true, false, Option, Some, None, Result, Ok, Err}
 use Rattle.ax_base.specs.Outside.{RoseByOne}
 use Rattle.ax_base.specs.Pieces.{Piece}
 use Rattle.ax_base.specs.declared.lines.Line.{Line}
@@ -9,7 +9,7 @@ use Rattle.ax_base.specs.declared.outside.SinkFault.TheVariants as sink
 use Rattle.ax_input.specs.Events.{EventRead, Good, Bad}
 use Rattle.ax_task.specs.Sections.{Section, most_kept}
 use Rattle.ax_task.specs.Sections as section
-use Rattle.ax_task.specs.Parse.{Stream, Clean, Fault, ends, with_event}
+use Rattle.ax_task.specs.Parse.{Stream, Clean, Fault, ends, with_event, last_after}
 use Rattle.ax_input.specs.Shown.{shown_event}
 use Rattle.ax_task.specs.declared.end.End.{End}
 use Rattle.ax_task.specs.declared.end.End.TheVariants as end
@@ -34,11 +34,17 @@ abbrev pub line_fault : ℕ → Option ℕ → ReadFault
 line_fault line None = read.NoMemory
 line_fault line (Some kind) = read.Fault line kind
 
--- the event of a line, or the kind of its fault
-abbrev pub ReadsLine : EventRead → Result Event (Option ℕ) → Type 0
-ReadsLine r (Ok e) = r ≡ Good (shown_event e)
-ReadsLine r (Err (Some kind)) = r ≡ Bad kind
-ReadsLine r (Err None) = Unit {0}
+-- the event of a line that may be blank or a comment, or the kind of its fault
+abbrev pub ReadsInOrder : Bool → EventRead → Result (Option Event) (Option ℕ) → Type 0
+ReadsInOrder skipped r (Ok None) = skipped ≡ true
+ReadsInOrder skipped r (Ok (Some e)) = (skipped ≡ false) × (r ≡ Good (shown_event e))
+ReadsInOrder skipped r (Err (Some kind)) = (skipped ≡ false) × (r ≡ Bad kind)
+ReadsInOrder skipped r (Err None) = Unit {0}
+
+-- the greatest ID of a barrier behind a line with this event, or with none, where it was `last` before
+abbrev pub last_behind : Option Event → ℤ → ℤ
+last_behind None last = last
+last_behind (Some e) last = last_after (shown_event e) last
 
 -- whether a line was kept, which it isn't where it passes the limit
 abbrev pub Keeps : Kept → Line → Kept → Result Bool NoMemory → Type 0

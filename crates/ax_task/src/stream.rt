@@ -2,16 +2,17 @@
 ghost use Rattle.std.specs.Prelude.{◌≡◌, ◌+◌, ◌≤◌, ◌<◌, ◌^◌, ◌++◌, ◌∷◌, [], IfOk, OnOk, IsSome, false};
 ghost use Rattle.ax_base.specs.Outside.{Told};
 ghost use Rattle.ax_base.specs.Given.{ahead};
-ghost use Rattle.ax_input.specs.Events.{event_of};
+ghost use Rattle.ax_input.specs.Events.{event_of, is_skipped};
 ghost use Rattle.ax_input.specs.Shown.{shown_event};
 ghost use Rattle.ax_task.specs.Parse.{stream_of, in_order, is_late, last_after, first_last};
-ghost use Rattle.ax_task.specs.Reads.{NextOf, ReaderCount, kind_number, line_fault, ReadsLine};
+ghost use Rattle.ax_task.specs.Reads.{NextOf, ReaderCount, kind_number, line_fault, ReadsInOrder, last_behind};
 ghost use Rattle.ax_task.specs.Passes.{events_at, feed_of, NextPasses};
 
 use crate::read_fault::ReadFault;
-use ax_base::{Line, LineFault, Lines, Source};
-use ax_input::{Event, EventFault, is_skipped, read_event};
+use ax_base::{Bytes, Line, LineFault, Lines, Source};
+use ax_input::{Event, EventFault, read_line};
 use std::alloc::Global;
+use std::mem;
 
 // A barrier's ID isn't greater than each before it.
 const LATE: u8 = 5;
@@ -44,20 +45,26 @@ fn fault_at(line: u64, kind: Option<u8>) -> ReadFault
     }
 }
 
-/// The reader of events: how many values a row has, and the greatest ID of the barriers that it gave, at first 0.
+/// The reader of events: how many values a row has, the greatest ID of the barriers that it gave, at first 0, and room for the text
+/// of a line.
 #[derive(Drop)]
 pub struct EventReader {
     pub fields: u8,
     pub last: i64,
+    room: Bytes,
 }
 
 impl EventReader {
     /// No event was read yet.
-    pub fn new(fields: u8) -> EventReader
+    pub fn new(alloc: Global, fields: u8) -> EventReader
         ensures fields { result.fields ≡ fields }
         ensures last { result.last ≡ first_last }
     {
-        EventReader { fields, last: 0 }
+        EventReader {
+            fields,
+            last: 0,
+            room: Bytes::new(alloc),
+        }
     }
 
     // Whether the event is a barrier whose ID isn't greater than each before it.
@@ -80,21 +87,22 @@ impl EventReader {
         }
     }
 
-    // The event of a line, or the kind of its fault, which want of memory has not.
-    fn event_at(&mut self, alloc: Global, line: &Line) -> Result<Event, Option<u8>>
+    // The event of a line, none of a blank line or a comment, or the kind of its fault, which want of memory has not.
+    fn event_at(&mut self, alloc: Global, line: &Line) -> Result<Option<Event>, Option<u8>>
         ensures fields { self.new.fields ≡ self.old.fields }
-        ensures reads { ReadsLine (in_order self.old.last (event_of self.old.fields line.now.text)) result }
-        ensures last { IfOk result (λ event. self.new.last ≡ last_after (shown_event event) self.old.last) }
+        ensures reads { ReadsInOrder (is_skipped line.now.text) (in_order self.old.last (event_of self.old.fields line.now.text)) result }
+        ensures last { IfOk result (λ event. self.new.last ≡ last_behind event self.old.last) }
     {
-        let event = match read_event(alloc, line.text.as_slice(), self.fields) {
-            Ok(event) => event,
+        let event = match read_line(alloc, line.text.as_slice(), self.fields) {
+            Ok(Some(event)) => event,
+            Ok(None) => return Ok(None),
             Err(fault) => return Err(kind_of(fault)),
         };
         if self.is_late(&event) {
             return Err(Some(LATE));
         }
         self.pass(&event);
-        Ok(event)
+        Ok(Some(event))
     }
 
     /// The next event, over blank lines and comments; `None` at the end of the input.
@@ -119,14 +127,17 @@ impl EventReader {
         ensures count { ReaderCount (S.faults input.old) (S.faults input.new) result }
     {
         'line: loop {
-            match lines.next(input) {
+            let room = mem::replace(&mut self.room, Bytes::new(alloc));
+            match lines.next_in(input, room) {
                 Ok(None) => return Ok(None),
                 Ok(Some(line)) => {
-                    if !is_skipped(line.text.as_slice()) {
-                        match self.event_at(alloc, &line) {
-                            Ok(event) => return Ok(Some(event)),
-                            Err(kind) => return Err(fault_at(line.number, kind)),
+                    match self.event_at(alloc, &line) {
+                        Ok(Some(event)) => {
+                            self.room = line.text;
+                            return Ok(Some(event));
                         }
+                        Ok(None) => self.room = line.text,
+                        Err(kind) => return Err(fault_at(line.number, kind)),
                     }
                 }
                 Err(LineFault::Read) => return Err(ReadFault::Read),

@@ -119,7 +119,7 @@ fn take_events<S: Source, K: Sink, B: Begun>(
     let Ok(mut thread) = PlainThread::new(alloc, program) else {
         return End::NoMemory;
     };
-    let mut events = EventReader::new(program.fields());
+    let mut events = EventReader::new(alloc, program.fields());
     'event: loop {
         match events.next(alloc, lines, input) {
             Ok(Some(event)) => {

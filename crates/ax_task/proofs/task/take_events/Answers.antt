@@ -1,4 +1,4 @@
-use Rattle.std.proofs.Common.{◌≡◌, ◌++◌, ◌∙◌, List, true, refl, sym, ap, subst}
+use Rattle.std.proofs.Common.{◌++◌, ◌∙◌, List, true, refl, sym, subst, ℕ, ℤ}
 use Rattle.std.specs.Io.KnownBytes.{append_known}
 use Rattle.ax_base.specs.Outside.{Told}
 use Rattle.ax_machine.specs.Events.{Event}
@@ -9,7 +9,6 @@ use Rattle.ax_task.specs.Parse.{first_last}
 use Rattle.ax_task.specs.Clause.{WritesLawful, StreamEnds}
 use Rattle.ax_task.specs.Passes.{events_at, feed_of, Took, Wrote}
 use Rattle.ax_task.specs.declared.end.End.{End}
-use Rattle.ax_task.specs.declared.stream.EventReader.{EventReader}
 use Rattle.ax_task.proofs.Progress.{holds, GoneOn, at_start, stops_once, event_on, ends_well, ends_at, stops_well, stops_at, stops_in}
 use Rattle.ax_task.proofs.Whole.{stream_counts, sink_counts}
 use Rattle.ax_task.proofs.task.take_events.Goals as goal
@@ -23,12 +22,10 @@ event-init g c =
     let thread = shown_plain (shown_kinds c.args.program.now) c.in-Ok.thread in
     let events = c.new-events.result in
     let F = events_at p.fields first_last lines in
-    let Starts : EventReader → Type 0 = λ r. GoneOn c.args.groups p F (events_at r.fields r.last lines) lines.held lines.held left left thread all all in
-    let is : record { fields = p.fields; last = first_last } ≡ events =
-    ap (λ f. let r : EventReader = record { fields = f; last = first_last } in r) (sym (c.new-events.ensures.fields ∙ c.fields.ensures.value))
-    ∙ ap (λ l. let r : EventReader = record { fields = events.fields; last = l } in r) (sym c.new-events.ensures.last) in
+    let Starts : ℕ → ℤ → Type 0 = λ fields last. GoneOn c.args.groups p F (events_at fields last lines) lines.held lines.held left left thread all all in
     record {
-      same = subst Starts is (at_start c.args.groups p F lines.held left all thread c.in-Ok.ensures.start);
+      same = subst (Starts events.fields) (sym c.new-events.ensures.last)
+          (subst (λ (fields : ℕ). Starts fields first_last) (sym (c.new-events.ensures.fields ∙ c.fields.ensures.value)) (at_start c.args.groups p F lines.held left all thread c.in-Ok.ensures.start));
       fits = c.in-Ok.ensures.fits;
       sound = c.requires.sound;
       reads = refl;
