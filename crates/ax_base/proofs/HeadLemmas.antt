@@ -81,19 +81,19 @@ equal_from n h [] (y ∷ ys) small fits long most same = absurd (omega arith)
 equal_from n h (x ∷ xs) [] small fits long most same = absurd (omega arith)
 equal_from zero h (x ∷ xs) (y ∷ ys) small fits long most same = absurd (omega arith)
 equal_from (suc n) h (x ∷ xs) (y ∷ ys) small fits long most same = elim (cases_order x y) [
-  inl tie ↦
-    let moved : head_from (256 * h + x) n ys ≡ head_from (256 * h + y) n ys = ap (λ z. head_from (256 * h + z) n ys) tie in
-    ap (λ o. ordering_then o (slice_cmp nat_cmp xs ys)) (sym (nat_cmp_is x y Equal tie))
-    ∙ equal_from n (256 * h + x) xs ys (tail x xs small) (tail y ys fits) (omega arith) (omega arith) (omega arith)
+  | inl tie ↦
+      let moved : head_from (256 * h + x) n ys ≡ head_from (256 * h + y) n ys = ap (λ z. head_from (256 * h + z) n ys) tie in
+      ap (λ o. ordering_then o (slice_cmp nat_cmp xs ys)) (sym (nat_cmp_is x y Equal tie))
+      ∙ equal_from n (256 * h + x) xs ys (tail x xs small) (tail y ys fits) (omega arith) (omega arith) (omega arith)
   | inr either ↦ elim either [
-    inl below ↦
-      let byte : x < 256 = first x xs small in
-      let more : head_from (256 * h + x) n xs < head_from (256 * h + y) n ys = stays_less n (256 * h + x) (256 * h + y) xs ys (tail x xs small) (omega arith) in
-      absurd (omega arith)
+    | inl below ↦
+        let byte : x < 256 = first x xs small in
+        let more : head_from (256 * h + x) n xs < head_from (256 * h + y) n ys = stays_less n (256 * h + x) (256 * h + y) xs ys (tail x xs small) (omega arith) in
+        absurd (omega arith)
     | inr above ↦
-      let byte : y < 256 = first y ys fits in
-      let more : head_from (256 * h + y) n ys < head_from (256 * h + x) n xs = stays_less n (256 * h + y) (256 * h + x) ys xs (tail y ys fits) (omega arith) in
-      absurd (omega arith)
+        let byte : y < 256 = first y ys fits in
+        let more : head_from (256 * h + y) n ys < head_from (256 * h + x) n xs = stays_less n (256 * h + y) (256 * h + x) ys xs (tail y ys fits) (omega arith) in
+        absurd (omega arith)
   ]
 ]
 
@@ -103,9 +103,9 @@ equal_heads a b small fits long most same = equal_from 8 0 a b small fits long m
 -- at most eight bytes are known by their head and their length
 pub known_by_heads : (a b : List ℕ) (h g : ℕ) (found : Ordering) → AreBytes a → AreBytes b → h ≡ head_of a → g ≡ head_of b → found ≡ nat_cmp h g → found ≡ Equal → length a ≡ length b → length a ≤ 8 → Equal ≡ slice_cmp nat_cmp a b
 known_by_heads a b h g found small fits of_a of_b is equal long most = elim (cases_order h g) [
-  inl tie ↦ sym (equal_heads a b small fits long most (omega arith))
+  | inl tie ↦ sym (equal_heads a b small fits long most (omega arith))
   | inr either ↦ elim either [
-    inl below ↦ let other : Less ≡ nat_cmp h g = nat_cmp_is h g Less below in absurd (cc)
+    | inl below ↦ let other : Less ≡ nat_cmp h g = nat_cmp_is h g Less below in absurd (cc)
     | inr above ↦ let other : Greater ≡ nat_cmp h g = nat_cmp_is h g Greater above in absurd (cc)
   ]
 ]
