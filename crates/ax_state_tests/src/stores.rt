@@ -10,12 +10,7 @@ use std::process::Abort;
 use std::test::Fail;
 
 // A store with some keys and the value of each.
-fn filled(
-    alloc: Global,
-    most: u32,
-    keys: &[&[u8]],
-    values: &[&[u8]],
-) -> Result<RunStore, Fail>
+fn filled(alloc: Global, most: u32, keys: &[&[u8]], values: &[&[u8]]) -> Result<RunStore, Fail>
     requires { 1 ≤ most }
 {
     let mut store = RunStore::with_memtable(alloc, most)?;
