@@ -8,9 +8,8 @@ mod program;
 mod run;
 mod status;
 
+pub use ax_words::{Options, WordFault, read_words};
 pub use fault_line::write_fault_line;
 pub use program::run_program;
 pub use run::run_alone;
 pub use status::Status;
-
-pub use ax_words::{Options, WordFault, read_words};

@@ -264,7 +264,7 @@ module _ (fs : Facts) where
   pub left_off : (c : Control) (answers : Answers) (s : ℕ) (o : Option Answer) → has s (slots c) ≡ false → (w : World) → left fs (upd answers s o) c w ≡ left fs answers c w
   left_off c answers s o h w = left_same c (upd answers s o) answers (λ j m. upd_off answers s o j (off s (slots c) h j m)) w
 
-  -- the request of a slot is served
+  -- a request of a slot is served
 
   serve_wait : (s s' : ℕ) (r r' : Request) (after : Next) (k : Cursor) (answers : Answers) (w : World) → (if nat_eq s s' then Some r' else None) ≡ Some r → answers s ≡ None
       → run_cursor fs k (left_wait fs (upd answers s (Some (answer_of r w.cells)) s') r' after (apply r w)) ≡ run_cursor fs k (left_wait fs (answers s') r' after w)

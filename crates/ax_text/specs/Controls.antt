@@ -133,7 +133,7 @@ without s (x ∷ xs) = if nat_eq s x then without s xs else x ∷ without s xs
 unfoldable pub give : Facts → Control → ℕ → Answer → Talk → Turn
 give f c s a t = give_in f c s a (without s (slots c)) t
 
--- the request that waits at a slot
+-- a request that waits at a slot
 abbrev pub request_at : Control → ℕ → Option Request
 request_at Done s = None
 request_at (Wait s' r n k) s = if nat_eq s s' then Some r else None

@@ -340,10 +340,22 @@ fn widths_and_names(rt: HostRuntime) {
     let alloc = rt.alloc();
     let cases = [
         ("input 0;on row;emit 1;end", (0, 0)),
-        ("input 0;state s value;on row;x = get s or 0;y = get s or 0;end", (2, 1)),
-        ("input 0;state s map;on row;let c = 0;each a b in s;let c = 1;end;end;on timer;let d = 1;end", (3, 1)),
-        ("input 0;state s value;on row;both;x = get s or 0;x = get s or 0;with;if 1;y = get s or 0;else;both;let z = 1;with;w = get s or 0;end;end;end;end", (4, 2)),
-        ("input 0;state s value;on row;both;x = get s or 0;with;both;y = get s or 0;with;z = get s or 0;end;end;put s 1;end", (3, 3)),
+        (
+            "input 0;state s value;on row;x = get s or 0;y = get s or 0;end",
+            (2, 1),
+        ),
+        (
+            "input 0;state s map;on row;let c = 0;each a b in s;let c = 1;end;end;on timer;let d = 1;end",
+            (3, 1),
+        ),
+        (
+            "input 0;state s value;on row;both;x = get s or 0;x = get s or 0;with;if 1;y = get s or 0;else;both;let z = 1;with;w = get s or 0;end;end;end;end",
+            (4, 2),
+        ),
+        (
+            "input 0;state s value;on row;both;x = get s or 0;with;both;y = get s or 0;with;z = get s or 0;end;end;put s 1;end",
+            (3, 3),
+        ),
     ];
     for (text, expected) in cases {
         assert_eq!(rt; most_and_widest(alloc, text).unwrap_or((98, 98)), expected);
