@@ -7,6 +7,8 @@ mod accounts;
 #[cfg(test)]
 mod buffers;
 #[cfg(test)]
+mod cells;
+#[cfg(test)]
 mod contexts;
 pub mod draws;
 #[cfg(test)]

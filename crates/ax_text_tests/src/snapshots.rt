@@ -1,4 +1,4 @@
-//! Blocks of two keys and of none.
+//! Blocks of two keys and of none, and of a list and a map.
 ghost use Rattle.std.specs.Prelude.{◌≡◌};
 ghost use Rattle.std.specs.List.{All};
 ghost use Rattle.ax_state.specs.Decls.{kinds};
@@ -11,53 +11,45 @@ use ax_state::{Decl, Decls, KeyCells, Kind, Request, fits};
 use std::alloc::Global;
 use std::test::Fail;
 
-// Two states of one number each.
-fn two_states(alloc: Global) -> Result<Decls, NoMemory> {
+// Two states of these kinds.
+fn two_states(alloc: Global, kinds: [Kind; 2]) -> Result<Decls, NoMemory> {
     let mut decls = Decls::new(alloc);
-    for name in ["c", "d"] {
+    for (name, kind) in [("c", kinds[0]), ("d", kinds[1])] {
         decls.push(Decl {
             name: Bytes::from_slice(alloc, name.as_bytes())?,
-            kind: Kind::Value,
+            kind,
         })?;
     }
     Ok(decls)
 }
 
-// Puts a number into a state that there is.
-fn put_number(
-    decls: &Decls,
-    cells: &mut KeyCells,
-    state: u8,
-    number: Option<i64>,
-) -> Result<(), NoMemory>
+// Serves a request that fits.
+fn ask(decls: &Decls, cells: &mut KeyCells, r: &Request) -> Result<(), NoMemory>
     requires { cell_kinds cells.old ≡ kinds decls.now }
     ensures { cell_kinds cells.new ≡ cell_kinds cells.old }
 {
-    let Some(number) = number else {
-        return Ok(());
-    };
-    let put = Request::ValuePut { state, number };
-    if fits(decls, &put) {
-        cells.apply(&put)?;
+    if fits(decls, r) {
+        cells.apply(r)?;
     }
     Ok(())
 }
 
-// A key with two numbers and its timers.
+// A key with what three requests leave, and its timers.
 fn add_key(
     alloc: Global,
     decls: &Decls,
     keys: &mut KeySnaps,
     name: &str,
-    numbers: (Option<i64>, Option<i64>),
+    requests: &[Request; 3],
     times: &[i64],
 ) -> Result<(), NoMemory>
     requires { All (λ k. cell_kinds k.cells ≡ kinds decls.now) keys.old }
     ensures { All (λ k. cell_kinds k.cells ≡ kinds decls.now) keys.new }
 {
     let mut cells = KeyCells::new(alloc, decls)?;
-    put_number(decls, &mut cells, 0, numbers.0)?;
-    put_number(decls, &mut cells, 1, numbers.1)?;
+    ask(decls, &mut cells, &requests[0])?;
+    ask(decls, &mut cells, &requests[1])?;
+    ask(decls, &mut cells, &requests[2])?;
     let timers = Nums::from_slice(alloc, times)?;
     match Key::read(alloc, name.as_bytes())? {
         Some(key) => keys.push(KeySnap { key, cells, timers }),
@@ -76,26 +68,31 @@ fn block(alloc: Global, keys: KeySnaps, wm: i64, decls: &Decls, m: u16) -> Resul
     write_snapshot(alloc, &s, decls, m)
 }
 
+fn put(state: u8, number: i64) -> Request {
+    Request::ValuePut { state, number }
+}
+
 #[test]
 fn blocks(rt: HostRuntime) -> Result<(), Fail> {
     let alloc = rt.alloc();
-    let decls = two_states(alloc)?;
+    let decls = two_states(alloc, [Kind::Value, Kind::Value])?;
     let none = block(alloc, KeySnaps::new(alloc), i64::MIN, &decls, 128)?;
     assert_eq!(rt;
         none.as_slice(),
         b"s 1 -9223372036854775808\ne 1 0\n".as_slice()
     );
     let mut keys = KeySnaps::new(alloc);
-    add_key(alloc, &decls, &mut keys, "a", (Some(5), None), &[-3, 7])?;
-    add_key(alloc, &decls, &mut keys, "z", (None, None), &[])?;
-    add_key(
-        alloc,
-        &decls,
-        &mut keys,
-        "b",
-        (Some(-1), Some(i64::MAX)),
-        &[],
-    )?;
+    let clear = Request::Clear { state: 0 };
+    let five = [clear, put(0, 5), Request::Clear { state: 1 }];
+    add_key(alloc, &decls, &mut keys, "a", &five, &[-3, 7])?;
+    let none = [
+        put(0, 1),
+        Request::Clear { state: 0 },
+        Request::Clear { state: 1 },
+    ];
+    add_key(alloc, &decls, &mut keys, "z", &none, &[])?;
+    let both = [put(0, 1), put(0, -1), put(1, i64::MAX)];
+    add_key(alloc, &decls, &mut keys, "b", &both, &[])?;
     let copy = keys.copy(alloc)?;
     let by_group = block(alloc, copy, 3, &decls, 128)?;
     assert_eq!(rt;
@@ -106,6 +103,34 @@ fn blocks(rt: HostRuntime) -> Result<(), Fail> {
     assert_eq!(rt;
         by_key.as_slice(),
         b"s 1 -1\nc a c 5\nt a -3\nt a 7\nc b c -1\nc b d 9223372036854775807\ne 1 5\n".as_slice()
+    );
+    Ok(())
+}
+
+#[test]
+fn a_block_of_a_list_and_a_map(rt: HostRuntime) -> Result<(), Fail> {
+    let alloc = rt.alloc();
+    let decls = two_states(alloc, [Kind::List, Kind::Map])?;
+    let mut keys = KeySnaps::new(alloc);
+    let items = Nums::from_slice(alloc, &[7, -1, 7])?;
+    let requests = [
+        Request::ListPut { state: 0, items },
+        Request::MapPut {
+            state: 1,
+            at: 5,
+            number: 1,
+        },
+        Request::MapPut {
+            state: 1,
+            at: -2,
+            number: 3,
+        },
+    ];
+    add_key(alloc, &decls, &mut keys, "a", &requests, &[4])?;
+    let bytes = block(alloc, keys, 3, &decls, 128)?;
+    assert_eq!(rt;
+        bytes.as_slice(),
+        b"s 1 3\nl a c 7\nl a c -1\nl a c 7\nm a d -2 3\nm a d 5 1\nt a 4\ne 1 6\n".as_slice()
     );
     Ok(())
 }
