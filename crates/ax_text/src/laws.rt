@@ -10,20 +10,19 @@ ghost use Rattle.ax_text.specs.Controls.{Control, Cursor, Event};
 ghost use Rattle.ax_text.specs.Futures.{ComesToRun, EndsAsRun, StaysWithin, AsksAtBegin, AsksAtGive};
 ghost use Rattle.ax_text.specs.Rows.{Row, IsAccepted, follow, widened_by, now_of, text_of, wide, Body};
 
-/// Of an accepted text, in which the arms of each `both` are silent and apart: whatever the order in which the requests are
-/// served and their answers given, what was done and what is still to be done come together to what its run does.
+/// Whatever the order in which the requests of a handler are served and their answers given, what was done and what is still to be done come together to what its run does.
 #[tactic(auto, using(crate::proofs::Going::comes_to_run))]
 pub fn futures_come_to_the_run()
     ensures { (f : Facts) (t : Text) (cells : Cells) (events : List Event) → ComesToRun f t cells events }
 {}
 
-/// Of an accepted text: where a handler is done, what it leaves is what its run leaves.
+/// Where a handler is done, what it leaves is what its run leaves.
 #[tactic(auto, using(crate::proofs::Going::ends_as_run))]
 pub fn futures_end_as_the_run()
     ensures { (f : Facts) (t : Text) (cells : Cells) (events : List Event) → EndsAsRun f t cells events }
 {}
 
-/// At most as many requests wait at once as the text is wide, whatever the order of answers.
+/// At most as many requests wait at once as the text is wide.
 #[tactic(auto, using(crate::proofs::Wide::stays_within))]
 pub fn waits_within_the_width()
     ensures { (f : Facts) (t : Text) (cells : Cells) (events : List Event) → StaysWithin f t cells events }

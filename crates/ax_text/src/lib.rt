@@ -1,5 +1,4 @@
-//! What a handler does on the state of one key: its run, without any waiting, and the same handler as data that waits for the
-//! answers to its requests. Every layer above cites these definitions.
+//! What a handler does on the state of one key, without any waiting: the definitions that every layer above cites.
 //!
 //! The definitions stand in `specs/`. Beside them stand the few plain types that they share with the code.
 #![tactic(auto)]
