@@ -1,5 +1,5 @@
 //! Blocks of two keys and of none, and of a list and a map.
-ghost use Rattle.std.specs.Prelude.{◌≡◌};
+ghost use Rattle.std.specs.Prelude.{◌≡◌, IfOk};
 ghost use Rattle.std.specs.List.{All};
 ghost use Rattle.ax_state.specs.Decls.{kinds};
 ghost use Rattle.ax_state.specs.KeyCells.{cell_kinds};
@@ -34,6 +34,17 @@ fn ask(decls: &Decls, cells: &mut KeyCells, r: &Request) -> Result<(), NoMemory>
     Ok(())
 }
 
+// What three requests leave.
+fn cells_after(alloc: Global, decls: &Decls, requests: &[Request; 3]) -> Result<KeyCells, NoMemory>
+    ensures { IfOk result (λ cells. cell_kinds cells ≡ kinds decls.now) }
+{
+    let mut cells = KeyCells::new(alloc, decls)?;
+    ask(decls, &mut cells, &requests[0])?;
+    ask(decls, &mut cells, &requests[1])?;
+    ask(decls, &mut cells, &requests[2])?;
+    Ok(cells)
+}
+
 // A key with what three requests leave, and its timers.
 fn add_key(
     alloc: Global,
@@ -46,10 +57,7 @@ fn add_key(
     requires { All (λ k. cell_kinds k.cells ≡ kinds decls.now) keys.old }
     ensures { All (λ k. cell_kinds k.cells ≡ kinds decls.now) keys.new }
 {
-    let mut cells = KeyCells::new(alloc, decls)?;
-    ask(decls, &mut cells, &requests[0])?;
-    ask(decls, &mut cells, &requests[1])?;
-    ask(decls, &mut cells, &requests[2])?;
+    let cells = cells_after(alloc, decls, requests)?;
     let timers = Nums::from_slice(alloc, times)?;
     match Key::read(alloc, name.as_bytes())? {
         Some(key) => keys.push(KeySnap { key, cells, timers }),
