@@ -60,7 +60,7 @@ fn run_words<S: Source, K: Sink>(
 /// Read comes where a read fault was counted, and Write where a write fault of `out` was.
 ///
 /// At Ok and Input a lawful list of lines was written for all events before the end or the fault; at
-/// Read, for those of the whole lines that were taken. At Write and NoMemory a prefix was written of
+/// Read, for those of the whole lines that were taken, none of which has a fault. At Write and NoMemory a prefix was written of
 /// a list that is lawful so far for them. Nothing was written where there is no program: then Write
 /// does not come, and Read only where the section did not end in the whole lines that were taken.
 pub fn run_alone<S: Source, K: Sink, E: Sink>(

@@ -17,7 +17,8 @@ use thiserror::Error;
 pub enum Event {
     /// A row of a key, with as many values as the program's rows have, at most 16.
     Row { key: Key, time: i64, values: Nums },
-    /// A watermark: no row before this time comes behind it.
+    /// A watermark. It is meant to say that no row of this time or before it is still to come; nobody checks that, and a row that comes
+    /// late all the same is taken like any other.
     Mark { time: i64 },
     /// A barrier, at which a snapshot is taken. Its ID is 1 or more.
     Barrier { id: i64 },

@@ -166,9 +166,10 @@ module _ (m : ℕ) (serial : Bool) (out : Holds) (p : Program) (F : List ℕ →
       (λ lines v is n.
       let none : in_front done (t.0.behind v) ≡ in_front done (ends Clean) = ap (in_front done) (ap t.0.behind (n t.2) ∙ t.1) in
       let events : (in_front done (t.0.behind v)).events ≡ done = ap (λ (q : Stream). q.events) none ∙ append-nil done in
+      let clean : (in_front done (t.0.behind v)).ending ≡ Clean = ap (λ (q : Stream). q.ending) none in
       let P : List Event → Type 0 = λ es. WritesLawful m serial p es out in
       let Q : Parsed → Type 0 = AtRead m serial out (section_in lines) in
-      subst Q (sym is) (subst P (sym events) wrote))
+      subst Q (sym is) (clean, subst P (sym events) wrote))
   events_stop end.Write s t wrote = part_stop (AtWrite m serial out) (λ q part. part) s t wrote
   events_stop end.NoMemory s t wrote = part_stop (AtNoMemory m serial out) (λ q part. part) s t wrote
   events_stop end.Ok s t wrote = tt

@@ -52,11 +52,11 @@ AreWholeLines taken left lines = (lines ≡ whole_lines taken) ⊎ ((lines ≡ t
 abbrev pub OfTaken : List ℕ → List ℕ → (List ℕ → Type 0) → Type 0
 OfTaken bytes left P = (taken lines : List ℕ) × (bytes ≡ taken ++ left) × AreWholeLines taken left lines × P lines
 
--- at a read fault a lawful list was written for all events of these lines; nothing, where the section did not end in them, and else they
--- have a program
+-- at a read fault the events of these lines have no fault, and a lawful list was written for all of them; nothing, where the section did
+-- not end in them, and else they have a program
 abbrev pub AtRead : ℕ → Bool → Holds → Section → Parsed → Type 0
 AtRead m serial out s (BadProgram line kind) = IsUnfinished s × Appends out.old out.new []
-AtRead m serial out s (Runs p stream) = WritesLawful m serial p stream.events out
+AtRead m serial out s (Runs p stream) = (stream.ending ≡ Clean) × WritesLawful m serial p stream.events out
 
 -- at a write fault some of a list that is lawful so far was written, and there is a program
 abbrev pub AtWrite : ℕ → Bool → Holds → Parsed → Type 0

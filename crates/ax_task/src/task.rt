@@ -203,7 +203,7 @@ fn run_events<S: Source, K: Sink>(
 /// section's end, and is then the only end but want of memory.
 /// `End::Input` names the first line of the events with a fault and its first kind; the lines of all events before it were written.
 /// `End::Read` and `End::Write` come only where the fault count of `input` or `out` rose in this call. At Read the lines of all events
-/// were written that the whole lines taken have; at Write and NoMemory some first bytes of them. Nothing is written behind a write fault.
+/// were written that the whole lines taken have, and none of these has a fault; at Write and NoMemory some first bytes of them. Nothing is written behind a write fault.
 pub fn run_task_alone<S: Source, K: Sink>(
     alloc: Global,
     groups: u16,
