@@ -1,5 +1,5 @@
 //! What the process does with its words.
-use ax_base::{Bytes, SureSink, SureSource};
+use ax_base::{Bytes, Source, SureSink, SureSource};
 use ax_cli::run_program;
 use std::alloc::AllocGlobal;
 use std::io::ErrorKind;
@@ -15,7 +15,7 @@ const BY_KEY: &str = "o a 5\no b 1\ns 1 -9223372036854775808\nc a c 5\nc b c 1\n
 
 const BY_GROUP: &str = "o a 5\no b 1\ns 1 -9223372036854775808\nc b c 1\nc a c 5\ne 1 2\n";
 
-// Calls the program with these words, the first of which is its name.
+// Calls the program with these words, the first of which is its name. Words that are refused leave the whole input.
 fn expect_call(
     rt: &(impl Abort + AllocGlobal),
     words: &[&str],
@@ -35,6 +35,11 @@ fn expect_call(
     assert_eq!(rt; found, code);
     assert_eq!(rt; sink.bytes(), out.as_bytes());
     assert_eq!(rt; err_sink.bytes(), err.as_bytes());
+    if found == 2 {
+        let mut left = [0u8; 128];
+        let count = source.read(&mut left).unwrap_or(0);
+        assert_eq!(rt; left.get(..count), Some(INPUT.as_bytes()));
+    }
     Ok(())
 }
 
@@ -46,7 +51,9 @@ fn words_of_the_process(rt: HostRuntime) -> Result<(), Fail> {
     expect_call(&rt, &["ax", "--max-parallelism", "4"], 0, BY_KEY, "")?;
     expect_call(&rt, &["ax", "--max-parallelism=128"], 0, BY_GROUP, "")?;
     expect_call(&rt, &["ax", "x"], 2, "", "ax: usage\n")?;
-    expect_call(&rt, &["ax", "--max-parallelism", "0"], 2, "", "ax: usage\n")
+    expect_call(&rt, &["ax", "--trace"], 2, "", "ax: usage\n")?;
+    expect_call(&rt, &["ax", "--max-parallelism", "0"], 2, "", "ax: usage\n")?;
+    expect_call(&rt, &["ax", "--max-parallelism=-4"], 2, "", "ax: usage\n")
 }
 
 #[test]

@@ -5,7 +5,7 @@ use crate::draws::next_draw;
 use ax_base::Duplicate;
 use ax_store::RunStore;
 use std::alloc::Global;
-use std::collections::BTreeMap;
+use std::collections::{BTreeMap, BTreeSet};
 use std::process::Abort;
 use std::test::Fail;
 
@@ -105,14 +105,53 @@ fn a_cell_is_copied(rt: HostRuntime) -> Result<(), Fail> {
     Ok(())
 }
 
-// The same map, as std's.
-type Plain = BTreeMap<Vec<u8>, Vec<u8>>;
+// The same map as std's, with the keys that the memtable has entries of, and with the number of runs.
+#[derive(Drop)]
+struct Plain {
+    map: BTreeMap<Vec<u8>, Vec<u8>>,
+    memtable: BTreeSet<Vec<u8>>,
+    most: usize,
+    runs: u32,
+}
+
+impl Plain {
+    // The memtable becomes a run, where it has entries; five runs become one.
+    fn flush(&mut self) {
+        if !self.memtable.is_empty() {
+            self.runs = if self.runs < 4 { self.runs + 1 } else { 1 };
+            self.memtable.clear();
+        }
+    }
+
+    // An entry of a key goes into the memtable, behind a flush where that is full.
+    fn enter(&mut self, alloc: Global, key: &[u8]) -> Result<(), Fail> {
+        if self.memtable.len() >= self.most {
+            self.flush();
+        }
+        let _ = self.memtable.insert(key.to_vec(alloc)?)?;
+        Ok(())
+    }
+
+    // What begins with a prefix goes. Four runs become one before a run of deletes comes, which does so where there is a key.
+    fn delete_prefix(&mut self, prefix: &[u8]) {
+        self.flush();
+        let before = self.map.len();
+        self.map
+            .retain(|key, _| !key.as_slice().starts_with(prefix));
+        if self.runs >= 4 {
+            self.runs = 1;
+        }
+        if self.map.len() < before {
+            self.runs = self.runs.saturating_add(1);
+        }
+    }
+}
 
 // What begins with a prefix, in both.
-fn same_scan(rt: &impl Abort, store: &RunStore, map: &Plain, prefix: &[u8]) -> Result<(), Fail> {
+fn same_scan(rt: &impl Abort, store: &RunStore, plain: &Plain, prefix: &[u8]) -> Result<(), Fail> {
     let cells = store.scan_prefix(prefix)?;
     let mut found = cells.as_slice().iter();
-    for (key, value) in map {
+    for (key, value) in &plain.map {
         if key.as_slice().starts_with(prefix) {
             let cell = found.next();
             assert_eq!(rt; cell.map(|c| c.key.as_slice()), Some(key.as_slice()));
@@ -127,19 +166,23 @@ fn same_scan(rt: &impl Abort, store: &RunStore, map: &Plain, prefix: &[u8]) -> R
 fn put(
     alloc: Global,
     store: &mut RunStore,
-    map: &mut Plain,
+    plain: &mut Plain,
     key: &[u8],
     value: u8,
 ) -> Result<(), Fail> {
     store.put(key, &[value])?;
-    map.insert(key.to_vec(alloc)?, [value].to_vec(alloc)?)?;
+    plain.enter(alloc, key)?;
+    plain
+        .map
+        .insert(key.to_vec(alloc)?, [value].to_vec(alloc)?)?;
     Ok(())
 }
 
-// What begins with a prefix goes, in both.
-fn delete_prefix(store: &mut RunStore, map: &mut Plain, prefix: &[u8]) -> Result<(), Fail> {
-    store.delete_prefix(prefix)?;
-    map.retain(|key, _| !key.as_slice().starts_with(prefix));
+// A key is taken out of both, whether it is there or not.
+fn delete(alloc: Global, store: &mut RunStore, plain: &mut Plain, key: &[u8]) -> Result<(), Fail> {
+    store.delete(key)?;
+    plain.enter(alloc, key)?;
+    let _ = plain.map.remove(key);
     Ok(())
 }
 
@@ -148,26 +191,39 @@ fn call(
     rt: &impl Abort,
     alloc: Global,
     store: &mut RunStore,
-    map: &mut Plain,
+    plain: &mut Plain,
     key: &[u8],
     kind: u8,
 ) -> Result<(), Fail> {
     match kind {
-        0 => store.flush()?,
-        1 => store.compact()?,
-        2 => delete_prefix(store, map, key)?,
-        3..=7 => same_scan(rt, store, map, key)?,
-        8..=30 => {
-            store.delete(key)?;
-            let _ = map.remove(key);
+        0 => {
+            store.flush()?;
+            plain.flush();
         }
-        _ => put(alloc, store, map, key, kind)?,
+        1 => {
+            store.compact()?;
+            plain.runs = plain.runs.min(1);
+        }
+        2 => {
+            store.delete_prefix(key)?;
+            plain.delete_prefix(key);
+        }
+        3..=7 => same_scan(rt, store, plain, key)?,
+        8..=30 => delete(alloc, store, plain, key)?,
+        _ => put(alloc, store, plain, key, kind)?,
     }
+    same_key(rt, store, plain, key)
+}
+
+// The value of a key and the counts, in both.
+fn same_key(rt: &impl Abort, store: &RunStore, plain: &Plain, key: &[u8]) -> Result<(), Fail> {
     let value = store.get(key)?;
     assert_eq!(rt;
         value.as_ref().map(|v| v.as_slice()),
-        map.get(key).map(|v| v.as_slice())
+        plain.map.get(key).map(|v| v.as_slice())
     );
+    assert_eq!(rt; store.memtable_len() as usize, plain.memtable.len());
+    assert_eq!(rt; store.runs(), plain.runs);
     Ok(())
 }
 
@@ -176,7 +232,12 @@ fn mixed_calls(rt: &impl Abort, alloc: Global, most: u32) -> Result<(), Fail>
     requires { 1 ≤ most }
 {
     let mut store = RunStore::with_memtable(alloc, most)?;
-    let mut map = Plain::new(alloc);
+    let mut plain = Plain {
+        map: BTreeMap::new(alloc),
+        memtable: BTreeSet::new(alloc),
+        most: most as usize,
+        runs: 0,
+    };
     let mut x = u64::from(most);
     for _ in 0..2500 {
         x = next_draw(x);
@@ -184,9 +245,16 @@ fn mixed_calls(rt: &impl Abort, alloc: Global, most: u32) -> Result<(), Fail>
         let start = (x >> 40) % 14;
         let len = (x >> 46) % 4;
         let key = &text[start as usize..(start + len) as usize];
-        call(rt, alloc, &mut store, &mut map, key, ((x >> 50) % 64) as u8)?;
+        call(
+            rt,
+            alloc,
+            &mut store,
+            &mut plain,
+            key,
+            ((x >> 50) % 64) as u8,
+        )?;
     }
-    same_scan(rt, &store, &map, b"")
+    same_scan(rt, &store, &plain, b"")
 }
 
 #[test]

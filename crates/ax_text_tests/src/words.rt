@@ -127,7 +127,10 @@ ax --mode=serial
 ax --io-threads 0
 ax --io-threads 4
 ax --shards 8
+ax --shards 8 --max-parallelism 4
 ax --batch 1000
+ax --batch 0
+ax --batch 5 --batch 5
 ax --in-flight 6000
 ax --memtable 4096
 ax --trace

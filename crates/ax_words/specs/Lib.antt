@@ -1,3 +1,4 @@
 pub mod Words
 pub mod Options
 pub mod Command
+pub mod Sample

@@ -1,11 +1,11 @@
 -- The options of the program, and what the words of a command line ask for.
-use Rattle.std.specs.Prelude.{List, [], ◌∷◌, Option, Some, None, codes, map, option_and_then, if◌then◌else◌}
+use Rattle.std.specs.Prelude.{List, [], ◌∷◌, Option, Some, None, codes, map, if◌then◌else◌}
 use Rattle.std.specs.Borrow.{Bor}
-use Rattle.ax_words.specs.Words.{Text, Rule, Number, Values, are_allowed, number, given_by, value_of, spellings_of}
+use Rattle.ax_words.specs.Words.{Text, Rule, Number, Values, are_allowed, read_by, number}
 use Rattle.ax_words.specs.declared.options.Options.{Options}
 
 abbrev pub max_parallelism : Rule
-max_parallelism = record { name = codes "max-parallelism"; takes = Number 1 32768; default = codes "128" }
+max_parallelism = record { name = codes "max-parallelism"; takes = Number 1 32768; default = Some (codes "128") }
 
 -- all options
 abbrev pub options : List Rule
@@ -17,7 +17,7 @@ options_with values = if are_allowed options values then Some (record { max_para
 
 -- what the words ask for, where they are accepted
 abbrev pub options_of : List Text → Option Options
-options_of words = option_and_then (λ given. options_with (value_of given)) (given_by (spellings_of options) None [] words)
+options_of words = read_by options options_with words
 
 -- the texts of some words
 abbrev pub texts : List (Bor Text) → List Text

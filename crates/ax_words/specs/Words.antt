@@ -1,5 +1,5 @@
 -- The options that the words of a command line give.
-use Rattle.std.specs.Prelude.{ℕ, ◌==◌, ℤ, pos, negsuc, Bool, true, false, List, [], ◌∷◌, ◌++◌, Option, Some, None, codes, find, map, is_some, nat_le, ◌&&◌, option_map, unwrap_or, if◌then◌else◌}
+use Rattle.std.specs.Prelude.{ℕ, ◌==◌, ℤ, pos, negsuc, Bool, true, false, List, [], ◌∷◌, ◌++◌, Option, Some, None, codes, find, map, is_some, nat_le, ◌&&◌, option_map, option_and_then, unwrap_or, if◌then◌else◌}
 use Rattle.std.specs.List.{list_any, list_all}
 use Rattle.std.specs.Str.{bytes_eq}
 use Rattle.clap.specs.Lexer.{long_of}
@@ -14,11 +14,11 @@ pub data Takes : Type 0 where
   Number : (least greatest : ℕ) → Takes
   Word : (words : List Text) → Takes
 
--- an option, with the value that it has where the words don't give it
+-- an option, with the value that it has where the words don't give it; one without such a value is off then
 pub record Rule : Type 0 where
   pub name : Text
   pub takes : Takes
-  pub default : Text
+  pub default : Option Text
 
 -- ---- which options stand in the words
 
@@ -112,26 +112,55 @@ is_value Nothing value = true
 is_value (Number least greatest) value = is_some (number_in least greatest value)
 is_value (Word words) value = list_any (λ w. bytes_eq w value) words
 
--- the value that an option is given, if any, is one that it takes
-abbrev pub is_allowed : Values → Rule → Bool
-is_allowed values r = is_fine (values r.name)
-  where
-    is_fine : Option Text → Bool
-    is_fine None = true
-    is_fine (Some value) = is_value r.takes value
+-- a value, where there is one, is one that the option takes
+abbrev pub is_fine : Takes → Option Text → Bool
+is_fine takes None = true
+is_fine takes (Some value) = is_value takes value
 
--- each option has a value that it takes
+-- each option that is given a value takes it
 abbrev pub are_allowed : List Rule → Values → Bool
-are_allowed rules values = list_all (is_allowed values) rules
+are_allowed rules values = list_all (λ r. is_fine r.takes (values r.name)) rules
 
--- what an option has: what it is given, or its default
-abbrev pub text_of : Values → Rule → Text
-text_of values r = unwrap_or (values r.name) r.default
+-- ---- what an option has
+
+-- whether a flag stands in the words
+abbrev pub is_on : Values → Rule → Bool
+is_on values r = is_true (values r.name)
+  where
+    is_true : Option Text → Bool
+    is_true (Some value) = bytes_eq value (codes "true")
+    is_true None = false
+
+-- the value that an option is given, or its default
+abbrev pub text_of : Values → Rule → Option Text
+text_of values r = or_default (values r.name)
+  where
+    or_default : Option Text → Option Text
+    or_default (Some value) = Some value
+    or_default None = r.default
+
+abbrev pub word_taken : Takes → Text → Option Text
+word_taken (Word words) value = find (λ w. bytes_eq w value) words
+word_taken _ value = None
+
+-- the word of an option that takes one, where it isn't off
+abbrev pub word_of : Values → Rule → Option Text
+word_of values r = option_and_then (word_taken r.takes) (text_of values r)
 
 abbrev pub number_taken : Takes → Text → Option ℕ
 number_taken (Number least greatest) value = number_in least greatest value
 number_taken _ value = None
 
--- the number of an option that takes one
+-- the number of an option that takes one, where it isn't off
+abbrev pub number_if_on : Values → Rule → Option ℕ
+number_if_on values r = option_and_then (number_taken r.takes) (text_of values r)
+
+-- the number of an option that takes one and has a default
 abbrev pub number : Values → Rule → ℕ
-number values r = unwrap_or (number_taken r.takes (text_of values r)) 0
+number values r = unwrap_or (number_if_on values r) 0
+
+-- ---- what words ask for
+
+-- what the words ask for, by what the values of the options do, where the words are accepted
+abbrev pub read_by : {X : Type 0} → List Rule → (Values → Option X) → List Text → Option X
+read_by rules asked words = option_and_then (λ given. asked (value_of given)) (given_by (spellings_of rules) None [] words)
