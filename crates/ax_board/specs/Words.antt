@@ -28,7 +28,7 @@ module _ {W J : Type 0} {g : Ghosts W J} where
   abbrev pub holds : WorkSeat W J g → Option (ℕ × J)
   holds s = held_of s.seat.me.0.0
 
-  -- the numbers that the seat found or left in words, the last one first, each with its word
+  -- what the seat's steps did at the words, the last one first
   abbrev pub task_found : TaskSeat W J g → Trail
   task_found s = s.seat.me.0.1
 

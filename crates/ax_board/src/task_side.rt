@@ -5,6 +5,7 @@ ghost use mathlib.Core.Option.{some};
 ghost use Rattle.ax_board.specs.Seats.{at_home};
 ghost use Rattle.ax_board.specs.Trail.{Rang, Tried};
 ghost use Rattle.ax_board.specs.Words.{table, task_table, work_table, notes, holds, task_found, work_found};
+ghost use Rattle.ax_board.specs.declared.view.Deed.TheVariants.{Left};
 ghost use Rattle.ax_board.specs.declared.view.Note.TheVariants.{Closed, Home, Out};
 
 use crate::board::Board;
@@ -95,7 +96,7 @@ impl<W: Work> Board<W> {
         requires fresh { W.was_run work ≡ false }
         ensures board { task_table seat.new ≡ table self.now }
         ensures notes { notes seat.new ≡ slice_set (notes seat.old) cell (Out (W.job work)) }
-        ensures rang { Rang (self.now.cells + 1) ((cell, 1) ∷ task_found seat.old) (task_found seat.new) }
+        ensures rang { Rang (self.now.cells + 1) (Left cell 1 ∷ task_found seat.old) (task_found seat.new) }
     {
         self.post_at(seat, usize::from(cell), work);
     }
@@ -107,7 +108,7 @@ impl<W: Work> Board<W> {
         requires fresh { W.was_run work ≡ false }
         ensures board { task_table seat.new ≡ table self.now }
         ensures notes { notes seat.new ≡ slice_set (notes seat.old) at (Out (W.job work)) }
-        ensures rang { Rang (self.now.cells + 1) ((at, 1) ∷ task_found seat.old) (task_found seat.new) }
+        ensures rang { Rang (self.now.cells + 1) (Left at 1 ∷ task_found seat.old) (task_found seat.new) }
     {
         seat.bring(at);
         let TaskSeat { seat, order, home } = seat;
@@ -199,7 +200,7 @@ impl<W: Work> Board<W> {
         requires board { task_table seat.old ≡ table self.now }
         ensures board { task_table seat.new ≡ table self.now }
         ensures notes { notes seat.new ≡ notes seat.old }
-        ensures rang { Rang (self.now.cells + 1) ((self.now.cells, 1) ∷ task_found seat.old) (task_found seat.new) }
+        ensures rang { Rang (self.now.cells + 1) (Left self.now.cells 1 ∷ task_found seat.old) (task_found seat.new) }
     {
         let TaskSeat { seat, .. } = seat;
         self.table.shared.store::<Stop<W>>(seat, self.cells, 1);

@@ -2,6 +2,7 @@
 ghost use Rattle.std.specs.Prelude.{◌≡◌, ℕ, ◌+◌, ◌<◌, true, false, IfSome, IfNone, IsSome, IsTrue, ◌↔◌, ◌∷◌, Some, None};
 ghost use Rattle.ax_board.specs.Seats.{one_if};
 ghost use Rattle.ax_board.specs.Trail.{Rang, Tried};
+ghost use Rattle.ax_board.specs.declared.view.Deed.TheVariants.{Found, Left};
 ghost use Rattle.ax_board.specs.Words.{table, work_table, holds, work_found};
 
 use crate::board::Board;
@@ -71,7 +72,7 @@ impl<W: Work> Board<W> {
         requires same { holds seat.old ≡ Some (held.cell, W.job held.work) }
         ensures board { work_table seat.new ≡ table self.now }
         ensures empty { holds seat.new ≡ None }
-        ensures rang { Rang (self.now.cells + 2) ((held.cell, 3) ∷ work_found seat.old) (work_found seat.new) }
+        ensures rang { Rang (self.now.cells + 2) (Left held.cell 3 ∷ work_found seat.old) (work_found seat.new) }
     {
         let Held {
             work,
@@ -89,7 +90,7 @@ impl<W: Work> Board<W> {
         requires same { holds seat.old ≡ Some (at, W.job work) }
         ensures board { work_table seat.new ≡ table self.now }
         ensures empty { holds seat.new ≡ None }
-        ensures found { work_found seat.new ≡ (at, 3) ∷ work_found seat.old }
+        ensures found { work_found seat.new ≡ Left at 3 ∷ work_found seat.old }
     {
         let WorkSeat { seat, empty } = seat;
         drop(self.table.shared.exchange(seat, at, Some(work)));
@@ -103,7 +104,7 @@ impl<W: Work> Board<W> {
         requires board { work_table seat.old ≡ table self.now }
         ensures board { work_table seat.new ≡ table self.now }
         ensures same { holds seat.new ≡ holds seat.old }
-        ensures found { work_found seat.new ≡ (self.now.cells, one_if result) ∷ work_found seat.old }
+        ensures found { work_found seat.new ≡ Found self.now.cells (one_if result) ∷ work_found seat.old }
     {
         let WorkSeat { seat, .. } = seat;
         self.table.shared.load::<Hear<W>>(seat, self.cells) == 1

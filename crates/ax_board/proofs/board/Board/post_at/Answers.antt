@@ -1,4 +1,4 @@
-use Rattle.std.proofs.Common.{rules, ◌≡◌, ℕ, ◌+◌, ◌%◌, ◌^◌, ◌<◌, ◌≤◌, ◌∷◌, ap, sym, ◌∙◌, subst, arith, length, map, set, false, true, Some, None}
+use Rattle.std.proofs.Common.{rules, ◌≡◌, ℕ, ◌+◌, ◌<◌, ◌≤◌, ◌∷◌, ap, sym, ◌∙◌, subst, arith, length, map, set, false, true, Some, None}
 use mathlib.Core.Option.{some}
 use lib.ListN.{get_elem?}
 use Rattle.atomic_table.specs.Table.{rest}
@@ -7,6 +7,7 @@ use Rattle.ax_board.specs.Trail.{bare}
 use Rattle.ax_board.specs.Seats.{notes_of}
 use Rattle.ax_board.proofs.Beside.{posts}
 use Rattle.ax_board.proofs.Tasks.{in_front, posted_task, refilled, flags_now, length_now, home_note}
+use Rattle.ax_board.specs.declared.view.Deed.TheVariants.{Left, Added}
 use Rattle.ax_board.specs.declared.view.Note.TheVariants.{Home, Out}
 use Rattle.ax_board.proofs.board.Board.post_at.Goals as goal
 
@@ -61,4 +62,4 @@ invariant_of-seat-clause-room g c = let s = c.bring.new.self in
 
 pub returns-clause-rang : goal.returns-clause-rang
 returns-clause-rang g c = let r = c.ring.ensures.rang in
-    (r.0, r.1 ∙ ap (λ t. (c.args.self.now.cells + 1, (r.0 + 1) % 2 ^ 64) ∷ (c.args.self.now.cells + 1, r.0) ∷ t) (c.store.ensures.2.1 ∙ ap (λ t. (c.args.at, 1) ∷ t) (ap (λ k. k.0.1) c.exchange.ensures.3 ∙ c.bring.ensures.found)))
+    (r.0, r.1 ∙ ap (λ t. Added (c.args.self.now.cells + 1) r.0 1 ∷ t) (c.store.ensures.2.1 ∙ ap (λ t. Left c.args.at 1 ∷ t) (ap (λ k. k.0.1) c.exchange.ensures.3 ∙ c.bring.ensures.found)))
