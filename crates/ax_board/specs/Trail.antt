@@ -1,5 +1,5 @@
 -- Each seat remembers, beside its view, what its steps did at the words.
-use Rattle.std.specs.Prelude.{◌≡◌, ◌↔◌, ℕ, List, ◌∷◌, map}
+use Rattle.std.specs.Prelude.{◌≡◌, ◌↔◌, ℕ, List, ◌∷◌, ◌++◌, map}
 use Rattle.atomic_table.specs.Table.{State, Me, Step}
 use Rattle.ax_board.specs.declared.view.Deed.{Deed}
 use Rattle.ax_board.specs.declared.view.Deed.TheVariants.{Found, Left, Added}
@@ -15,6 +15,10 @@ Tried i wanted won old new = (n : ℕ) × (new ≡ Found i n ∷ old) × (won �
 -- one step more, which added one to the word of this bell
 abbrev pub Rang : ℕ → Trail → Trail → Type 0
 Rang bell old new = (n : ℕ) × (new ≡ Added bell n 1 ∷ old)
+
+-- some loads more, and nothing else
+abbrev pub Looked : Trail → Trail → Type 0
+Looked old new = (seen : List (ℕ × ℕ)) × (new ≡ map (λ (x : ℕ × ℕ). Found x.0 x.1) seen ++ old)
 
 module _ {S V : Type 0} where
   abbrev pub bare : Me S (V × Trail) → Me S V

@@ -1,5 +1,5 @@
 -- What contracts say of a board and its seats.
-use Rattle.std.specs.Prelude.{ℕ, List, Option}
+use Rattle.std.specs.Prelude.{ℕ, Bool, List, Option}
 use Rattle.atomic_table.specs.Seated.{TableId}
 use Rattle.ax_board.specs.declared.view.Note.{Note}
 use Rattle.ax_board.specs.declared.work.Work.{Ghosts}
@@ -7,7 +7,7 @@ use Rattle.ax_board.specs.declared.board.Board.{Board}
 use Rattle.ax_board.specs.declared.seats.TaskSeat.{TaskSeat}
 use Rattle.ax_board.specs.declared.seats.WorkSeat.{WorkSeat}
 use Rattle.ax_board.specs.Trail.{Trail}
-use Rattle.ax_board.specs.Seats.{notes_of, held_of}
+use Rattle.ax_board.specs.Seats.{notes_of, told_of, held_of}
 
 -- the table of a board, by which a seat is known to be of this board
 abbrev pub table : {W J : Type 0} → Board W J → TableId
@@ -23,6 +23,10 @@ module _ {W J : Type 0} {g : Ghosts W J} where
   -- what the task notes for each cell
   abbrev pub notes : TaskSeat W J g → List (Note J)
   notes s = notes_of s.seat.me.0.0
+
+  -- the task has told the workers to stop
+  abbrev pub told : TaskSeat W J g → Bool
+  told s = told_of s.seat.me.0.0
 
   -- the cell and the job of the work that a worker holds
   abbrev pub holds : WorkSeat W J g → Option (ℕ × J)

@@ -3,8 +3,8 @@ ghost use Rattle.std.specs.Prelude.{◌≡◌, ℕ, ◌+◌, ◌<◌, ◌≤◌,
 ghost use lib.ListN.{get_elem?};
 ghost use mathlib.Core.Option.{some};
 ghost use Rattle.ax_board.specs.Seats.{at_home};
-ghost use Rattle.ax_board.specs.Trail.{Rang, Tried};
-ghost use Rattle.ax_board.specs.Words.{table, task_table, work_table, notes, holds, task_found, work_found};
+ghost use Rattle.ax_board.specs.Trail.{Rang, Tried, Looked};
+ghost use Rattle.ax_board.specs.Words.{table, task_table, work_table, notes, told, holds, task_found, work_found};
 ghost use Rattle.ax_board.specs.declared.view.Deed.TheVariants.{Left};
 ghost use Rattle.ax_board.specs.declared.view.Note.TheVariants.{Closed, Home, Out};
 
@@ -30,6 +30,7 @@ impl<W: Work> Board<W> {
         ensures cells { IfOk result (λ r. r.0.cells ≡ cells) }
         ensures board { IfOk result (λ r. task_table r.1 ≡ table r.0) }
         ensures notes { IfOk result (λ r. notes r.1 ≡ replicate cells Home) }
+        ensures told { IfOk result (λ r. told r.1 ≡ false) }
     {
         let (board, mut seat) = Board::closed(alloc, cells)?;
         for at in 0..board.cells {
@@ -41,7 +42,7 @@ impl<W: Work> Board<W> {
     // No cell is open.
     fn closed(alloc: Global, cells: u16) -> Result<(Board<W>, TaskSeat<W>), NoMemory>
         requires { (0 < cells) × (cells ≤ 64) }
-        ensures { IfOk result (λ r. (r.0.cells ≡ cells) × (task_table r.1 ≡ table r.0) × (notes r.1 ≡ replicate cells Closed)) }
+        ensures { IfOk result (λ r. (r.0.cells ≡ cells) × (task_table r.1 ≡ table r.0) × (notes r.1 ≡ replicate cells Closed) × (told r.1 ≡ false)) }
     {
         let count = usize::from(cells);
         let Ok(order) = VecDeque::with_capacity(alloc, count) else {
@@ -72,6 +73,7 @@ impl<W: Work> Board<W> {
         requires closed { get_elem? (notes seat.old) at ≡ some Closed }
         ensures board { task_table seat.new ≡ table self.now }
         ensures notes { notes seat.new ≡ slice_set (notes seat.old) at Home }
+        ensures told { told seat.new ≡ told seat.old }
     {
         let TaskSeat { seat, order, home } = seat;
         self.table.shared.load::<Open<W>>(seat, at);
@@ -96,6 +98,7 @@ impl<W: Work> Board<W> {
         requires fresh { W.was_run work ≡ false }
         ensures board { task_table seat.new ≡ table self.now }
         ensures notes { notes seat.new ≡ slice_set (notes seat.old) cell (Out (W.job work)) }
+        ensures told { told seat.new ≡ told seat.old }
         ensures rang { Rang (self.now.cells + 1) (Left cell 1 ∷ task_found seat.old) (task_found seat.new) }
     {
         self.post_at(seat, usize::from(cell), work);
@@ -108,6 +111,7 @@ impl<W: Work> Board<W> {
         requires fresh { W.was_run work ≡ false }
         ensures board { task_table seat.new ≡ table self.now }
         ensures notes { notes seat.new ≡ slice_set (notes seat.old) at (Out (W.job work)) }
+        ensures told { told seat.new ≡ told seat.old }
         ensures rang { Rang (self.now.cells + 1) (Left at 1 ∷ task_found seat.old) (task_found seat.new) }
     {
         seat.bring(at);
@@ -130,6 +134,7 @@ impl<W: Work> Board<W> {
         ensures found { Tried cell 3 (IsSome result) (task_found seat.old) (task_found seat.new) }
         ensures none { IfNone result (notes seat.new ≡ notes seat.old) }
         ensures some { IfSome result (λ _. notes seat.new ≡ slice_set (notes seat.old) cell Home) }
+        ensures told { told seat.new ≡ told seat.old }
         ensures job { IfSome result (λ w. get_elem? (notes seat.old) cell ≡ some (Out (W.job w))) }
         ensures ran { IfSome result (λ w. W.was_run w ≡ true) }
         ensures result { IfSome result (λ w. W.has_result w) }
@@ -145,6 +150,7 @@ impl<W: Work> Board<W> {
         ensures found { Tried at 3 (IsSome result) (task_found seat.old) (task_found seat.new) }
         ensures none { IfNone result (notes seat.new ≡ notes seat.old) }
         ensures some { IfSome result (λ _. notes seat.new ≡ slice_set (notes seat.old) at Home) }
+        ensures told { told seat.new ≡ told seat.old }
         ensures job { IfSome result (λ w. get_elem? (notes seat.old) at ≡ some (Out (W.job w))) }
         ensures ran { IfSome result (λ w. W.was_run w ≡ true) }
         ensures result { IfSome result (λ w. W.has_result w) }
@@ -167,6 +173,7 @@ impl<W: Work> Board<W> {
         requires board { task_table seat.old ≡ table self.now }
         ensures board { task_table seat.new ≡ table self.now }
         ensures notes { notes seat.new ≡ notes seat.old }
+        ensures told { told seat.new ≡ told seat.old }
         ensures found { task_found seat.new ≡ task_found seat.old }
         ensures worker { work_table result ≡ table self.now }
         ensures empty { holds result ≡ None }
@@ -188,6 +195,7 @@ impl<W: Work> Board<W> {
         requires empty { holds other ≡ None }
         ensures board { task_table seat.new ≡ table self.now }
         ensures notes { notes seat.new ≡ notes seat.old }
+        ensures told { told seat.new ≡ told seat.old }
         ensures found { task_found seat.new ≡ task_found seat.old }
     {
         let TaskSeat { seat, .. } = seat;
@@ -200,6 +208,7 @@ impl<W: Work> Board<W> {
         requires board { task_table seat.old ≡ table self.now }
         ensures board { task_table seat.new ≡ table self.now }
         ensures notes { notes seat.new ≡ notes seat.old }
+        ensures told { told seat.new ≡ true }
         ensures rang { Rang (self.now.cells + 1) (Left self.now.cells 1 ∷ task_found seat.old) (task_found seat.new) }
     {
         let TaskSeat { seat, .. } = seat;
@@ -216,6 +225,8 @@ impl<W: Work> Board<W> {
         requires board { task_table seat.old ≡ table self.now }
         ensures board { task_table seat.new ≡ table self.now }
         ensures notes { notes seat.new ≡ notes seat.old }
+        ensures told { told seat.new ≡ told seat.old }
+        ensures looked { Looked (task_found seat.old) (task_found seat.new) }
     {
         let TaskSeat { seat, .. } = seat;
         self.wait_on(rt, seat, self.cells + 2, 3, false);

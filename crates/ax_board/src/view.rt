@@ -13,8 +13,8 @@ pub enum Note<J> {
 
 /// The view of a seat.
 pub enum View<J> {
-    /// Of the task: a note for each cell.
-    Task(LinkedList<Note<J>>),
+    /// Of the task: a note for each cell, and whether stop was told.
+    Task(LinkedList<Note<J>>, bool),
     /// Of a worker: the cell of the work that it holds, with its job.
     Worker(Option<(u64, J)>),
     /// Of a seat that was joined into the task's.

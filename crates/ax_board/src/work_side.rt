@@ -1,7 +1,7 @@
 // The calls of a worker.
 ghost use Rattle.std.specs.Prelude.{◌≡◌, ℕ, ◌+◌, ◌<◌, true, false, IfSome, IfNone, IsSome, IsTrue, ◌↔◌, ◌∷◌, Some, None};
 ghost use Rattle.ax_board.specs.Seats.{one_if};
-ghost use Rattle.ax_board.specs.Trail.{Rang, Tried};
+ghost use Rattle.ax_board.specs.Trail.{Rang, Tried, Looked};
 ghost use Rattle.ax_board.specs.declared.view.Deed.TheVariants.{Found, Left};
 ghost use Rattle.ax_board.specs.Words.{table, work_table, holds, work_found};
 
@@ -116,6 +116,7 @@ impl<W: Work> Board<W> {
         requires board { work_table seat.old ≡ table self.now }
         ensures board { work_table seat.new ≡ table self.now }
         ensures same { holds seat.new ≡ holds seat.old }
+        ensures looked { Looked (work_found seat.old) (work_found seat.new) }
     {
         let WorkSeat { seat, .. } = seat;
         self.wait_on(rt, seat, self.cells + 1, 1, true);
