@@ -4,6 +4,7 @@ use Rattle.atomic_table.specs.Seated.{TableId}
 use Rattle.ax_board.specs.declared.view.Note.{Note}
 use Rattle.ax_board.specs.declared.work.Work.{Ghosts}
 use Rattle.ax_board.specs.declared.board.Board.{Board}
+use Rattle.ax_board.specs.declared.held.Held.{Held}
 use Rattle.ax_board.specs.declared.seats.TaskSeat.{TaskSeat}
 use Rattle.ax_board.specs.declared.seats.WorkSeat.{WorkSeat}
 use Rattle.ax_board.specs.Trail.{Trail}
@@ -13,7 +14,23 @@ use Rattle.ax_board.specs.Seats.{notes_of, told_of, held_of}
 abbrev pub table : {W J : Type 0} → Board W J → TableId
 table b = b.table.shared.table_id
 
+-- how many cells a board has
+abbrev pub cell_count : {W J : Type 0} → Board W J → ℕ
+cell_count b = b.cells
+
 module _ {W J : Type 0} {g : Ghosts W J} where
+  -- the work that a worker claimed
+  abbrev pub work_of : Held W J g → W
+  work_of h = h.work
+
+  -- the cell to which it was posted
+  abbrev pub cell_of : Held W J g → ℕ
+  cell_of h = h.cell
+
+  -- the worker has run it
+  abbrev pub is_run : Held W J g → Bool
+  is_run h = h.is_run
+
   abbrev pub task_table : TaskSeat W J g → TableId
   task_table s = s.seat.table_id
 

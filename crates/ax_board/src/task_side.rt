@@ -4,7 +4,7 @@ ghost use lib.ListN.{get_elem?};
 ghost use mathlib.Core.Option.{some};
 ghost use Rattle.ax_board.specs.Seats.{at_home};
 ghost use Rattle.ax_board.specs.Trail.{Rang, Tried, Looked};
-ghost use Rattle.ax_board.specs.Words.{table, task_table, work_table, notes, told, holds, task_found, work_found};
+ghost use Rattle.ax_board.specs.Words.{table, cell_count, task_table, work_table, notes, told, holds, task_found, work_found};
 ghost use Rattle.ax_board.specs.declared.view.Deed.TheVariants.{Left};
 ghost use Rattle.ax_board.specs.declared.view.Note.TheVariants.{Closed, Home, Out};
 
@@ -27,7 +27,7 @@ impl<W: Work> Board<W> {
     pub fn new(alloc: Global, cells: u16) -> Result<(Board<W>, TaskSeat<W>), NoMemory>
         requires some { 0 < cells }
         requires few { cells ≤ 64 }
-        ensures cells { IfOk result (λ r. r.0.cells ≡ cells) }
+        ensures cells { IfOk result (λ r. cell_count r.0 ≡ cells) }
         ensures board { IfOk result (λ r. task_table r.1 ≡ table r.0) }
         ensures notes { IfOk result (λ r. notes r.1 ≡ replicate cells Home) }
         ensures told { IfOk result (λ r. told r.1 ≡ false) }
@@ -42,7 +42,7 @@ impl<W: Work> Board<W> {
     // No cell is open.
     fn closed(alloc: Global, cells: u16) -> Result<(Board<W>, TaskSeat<W>), NoMemory>
         requires { (0 < cells) × (cells ≤ 64) }
-        ensures { IfOk result (λ r. (r.0.cells ≡ cells) × (task_table r.1 ≡ table r.0) × (notes r.1 ≡ replicate cells Closed) × (told r.1 ≡ false)) }
+        ensures { IfOk result (λ r. (cell_count r.0 ≡ cells) × (task_table r.1 ≡ table r.0) × (notes r.1 ≡ replicate cells Closed) × (told r.1 ≡ false)) }
     {
         let count = usize::from(cells);
         let Ok(order) = VecDeque::with_capacity(alloc, count) else {
@@ -69,7 +69,7 @@ impl<W: Work> Board<W> {
     // The task takes the slot of a cell.
     fn open(&self, seat: &mut TaskSeat<W>, at: usize)
         requires board { task_table seat.old ≡ table self.now }
-        requires cell { at < self.now.cells }
+        requires cell { at < cell_count self.now }
         requires closed { get_elem? (notes seat.old) at ≡ some Closed }
         ensures board { task_table seat.new ≡ table self.now }
         ensures notes { notes seat.new ≡ slice_set (notes seat.old) at Home }
@@ -84,7 +84,7 @@ impl<W: Work> Board<W> {
     /// The task has the slot of the cell: nothing is posted there that was not collected.
     pub fn is_home(&self, seat: &TaskSeat<W>, cell: u16) -> bool
         requires board { task_table seat.now ≡ table self.now }
-        requires cell { cell < self.now.cells }
+        requires cell { cell < cell_count self.now }
         ensures { result ≡ at_home (notes seat.now) cell }
     {
         seat.home[usize::from(cell)]
@@ -93,26 +93,26 @@ impl<W: Work> Board<W> {
     /// Puts work out at a cell, and then rings the work bell. Conditions: `is_home`, and the work was not run.
     pub fn post(&self, seat: &mut TaskSeat<W>, cell: u16, work: W)
         requires board { task_table seat.old ≡ table self.now }
-        requires cell { cell < self.now.cells }
+        requires cell { cell < cell_count self.now }
         requires home { at_home (notes seat.old) cell ≡ true }
         requires fresh { W.was_run work ≡ false }
         ensures board { task_table seat.new ≡ table self.now }
         ensures notes { notes seat.new ≡ slice_set (notes seat.old) cell (Out (W.job work)) }
         ensures told { told seat.new ≡ told seat.old }
-        ensures rang { Rang (self.now.cells + 1) (Left cell 1 ∷ task_found seat.old) (task_found seat.new) }
+        ensures rang { Rang (cell_count self.now + 1) (Left cell 1 ∷ task_found seat.old) (task_found seat.new) }
     {
         self.post_at(seat, usize::from(cell), work);
     }
 
     fn post_at(&self, seat: &mut TaskSeat<W>, at: usize, work: W)
         requires board { task_table seat.old ≡ table self.now }
-        requires cell { at < self.now.cells }
+        requires cell { at < cell_count self.now }
         requires home { at_home (notes seat.old) at ≡ true }
         requires fresh { W.was_run work ≡ false }
         ensures board { task_table seat.new ≡ table self.now }
         ensures notes { notes seat.new ≡ slice_set (notes seat.old) at (Out (W.job work)) }
         ensures told { told seat.new ≡ told seat.old }
-        ensures rang { Rang (self.now.cells + 1) (Left at 1 ∷ task_found seat.old) (task_found seat.new) }
+        ensures rang { Rang (cell_count self.now + 1) (Left at 1 ∷ task_found seat.old) (task_found seat.new) }
     {
         seat.bring(at);
         let TaskSeat { seat, order, home } = seat;
@@ -128,7 +128,7 @@ impl<W: Work> Board<W> {
     /// call's exchange found the cell's word not at 3.
     pub fn collect(&self, seat: &mut TaskSeat<W>, cell: u16) -> Option<W>
         requires board { task_table seat.old ≡ table self.now }
-        requires cell { cell < self.now.cells }
+        requires cell { cell < cell_count self.now }
         requires out { at_home (notes seat.old) cell ≡ false }
         ensures board { task_table seat.new ≡ table self.now }
         ensures found { Tried cell 3 (IsSome result) (task_found seat.old) (task_found seat.new) }
@@ -144,7 +144,7 @@ impl<W: Work> Board<W> {
 
     fn collect_at(&self, seat: &mut TaskSeat<W>, at: usize) -> Option<W>
         requires board { task_table seat.old ≡ table self.now }
-        requires cell { at < self.now.cells }
+        requires cell { at < cell_count self.now }
         requires out { at_home (notes seat.old) at ≡ false }
         ensures board { task_table seat.new ≡ table self.now }
         ensures found { Tried at 3 (IsSome result) (task_found seat.old) (task_found seat.new) }
@@ -209,7 +209,7 @@ impl<W: Work> Board<W> {
         ensures board { task_table seat.new ≡ table self.now }
         ensures notes { notes seat.new ≡ notes seat.old }
         ensures told { told seat.new ≡ true }
-        ensures rang { Rang (self.now.cells + 1) (Left self.now.cells 1 ∷ task_found seat.old) (task_found seat.new) }
+        ensures rang { Rang (cell_count self.now + 1) (Left (cell_count self.now) 1 ∷ task_found seat.old) (task_found seat.new) }
     {
         let TaskSeat { seat, .. } = seat;
         self.table.shared.store::<Stop<W>>(seat, self.cells, 1);
