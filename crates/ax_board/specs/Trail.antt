@@ -8,7 +8,7 @@ use Rattle.ax_board.specs.declared.view.Deed.TheVariants.{Found, Left, Added}
 abbrev pub Trail : Type 0
 Trail = List Deed
 
--- one step more, which found some number at the word i and left none of its own choice. It won where that is the number that was wanted
+-- a load or an exchange more, which found some number at the word i. It won where that is the number that was wanted
 abbrev pub Tried : ℕ → ℕ → Type 0 → Trail → Trail → Type 0
 Tried i wanted won old new = (n : ℕ) × (new ≡ Found i n ∷ old) × (won ↔ (n ≡ wanted))
 
