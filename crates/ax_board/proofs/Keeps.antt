@@ -15,14 +15,21 @@ use Rattle.ax_board.specs.declared.view.Note.{Note}
 use Rattle.ax_board.specs.declared.view.Note.TheVariants.{Closed, Home, Out}
 use Rattle.ax_board.specs.Seats.{held_of, slots_of}
 use Rattle.ax_board.specs.Rule.{Notes, Posted, Claimed, Returned, Stands, Ruled}
-use Rattle.ax_board.specs.Seats.{notes_of}
-use Rattle.ax_board.specs.Plays.{looked, heard, opened, posted, claimed, given_back, collected}
+use Rattle.ax_board.specs.Seats.{notes_of, told_of, one_if}
+use Rattle.ax_board.specs.Plays.{looked, heard, stop_told, opened, posted, claimed, given_back, collected}
 
-pub task_same : {J : Type 0} (a b : List (Note J)) → Task a ≡ Task b → a ≡ b
-task_same a b e = ap notes_of e
+pub task_same : {J : Type 0} (a b : List (Note J)) (x y : Bool) → Task a x ≡ Task b y → a ≡ b
+task_same a b x y e = ap notes_of e
+
+pub told_same : {J : Type 0} (a b : List (Note J)) (x y : Bool) → Task a x ≡ Task b y → x ≡ y
+told_same a b x y e = ap told_of e
+
+low : (b : Bool) → one_if b ≤ 1
+low true = omega arith
+low false = omega arith
 
 abbrev pub is_task : {J : Type 0} → View J → ℕ
-is_task (Task notes) = 1
+is_task (Task notes told) = 1
 is_task (Worker held) = 0
 is_task Spent = 2
 
@@ -85,8 +92,8 @@ module _ {W J : Type 0} (job : W → J) (was_run : W → Bool) (has_result : W �
   -- a step on the cell c by the seat id, which goes from v to w
   unfoldable pub remade : (n : ℕ) (s : State (Option W) (View J)) (r : Ruled job was_run has_result n s) (c k id : ℕ) (hs : List (Maybe (Option W))) (v w : View J) (notes : List (Note J))
       → c < n → get_elem? s.views id ≡ some v
-      → get_elem? (set s.views id w) r.seat ≡ some (Task notes)
-      → ((ns : List (Note J)) → w ≡ Task ns → id ≡ r.seat)
+      → get_elem? (set s.views id w) r.seat ≡ some (Task notes r.told)
+      → ((ns : List (Note J)) (b : Bool) → w ≡ Task ns b → id ≡ r.seat)
       → length notes ≡ n → length hs ≡ length s.homes
       → ((d : ℕ) → d ≢ c → get_elem? notes d ≡ get_elem? r.notes d)
       → ((d : ℕ) → d ≢ c → get_elem? hs d ≡ get_elem? s.homes d)
@@ -97,11 +104,12 @@ module _ {W J : Type 0} (job : W → J) (was_run : W → Bool) (has_result : W �
   remade n s r c k id hs v w notes below me task no_task all deep notes_else homes_else old_else new_else the_note the_note_at here = record {
     wide = length-set s.words c k ∙ r.wide;
     deep = deep ∙ r.deep;
-    stop = subst (λ (x : ℕ). x ≤ 1) (sym (get_or-set_other s.words c n k 0 (λ (e : n ≡ c). absurd (omega arith)))) r.stop;
     seat = r.seat;
     notes = notes;
+    told = r.told;
+    stop = get_or-set_other s.words c n k 0 (λ (e : n ≡ c). absurd (omega arith)) ∙ r.stop;
     task = task;
-    one_task = λ other ns e. ⊎_elim (λ t. t.0 ∙ no_task ns t.1) (λ t. r.one_task other ns t.1) (at_set s.views id other w (Task ns) e);
+    one_task = λ other ns b e. ⊎_elim (λ t. t.0 ∙ no_task ns b t.1) (λ t. r.one_task other ns b t.1) (at_set s.views id other w (Task ns b) e);
     all = all;
     cells = λ d note e. dite (ℕ_discrete d c)
         (λ (is : d ≡ c).
@@ -131,7 +139,7 @@ module _ {W J : Type 0} (job : W → J) (was_run : W → Bool) (has_result : W �
   looks n slots id i m s r wide me _ = (m.0, keeps, tt, still n i id m s r me, refl)
 
   pub hears : (n slots id : ℕ) (m : Me (Option W) (View J)) → Allows (Ruled job was_run has_result n) slots id m n (λ x. x) (heard (step slots n 0 0 none) m)
-  hears n slots id m s r wide me _ = (m.0, keeps, tt, still n n id m s r me, (refl, r.stop))
+  hears n slots id m s r wide me _ = (m.0, keeps, tt, still n n id m s r me, (refl, subst (λ (x : ℕ). x ≤ 1) (sym r.stop) (low r.told)))
 
   -- a note is there
   pub noted : (notes : List (Note J)) (c : ℕ) → c < length notes → (note : Note J) × (get_elem? notes c ≡ some note)
@@ -150,8 +158,8 @@ module _ {W J : Type 0} (job : W → J) (was_run : W → Bool) (has_result : W �
 
   -- a seat with no such view is not the task's
   pub not_task : (n : ℕ) (s : State (Option W) (View J)) (r : Ruled job was_run has_result n s) (id : ℕ) (v w : View J) → get_elem? s.views id ≡ some v → (is_task v ≢ 1)
-      → get_elem? (set s.views id w) r.seat ≡ some (Task r.notes)
-  not_task n s r id v w me other = set_else s.views id r.seat w (λ (e : r.seat ≡ id). other (ap is_task (some-injective v (Task r.notes) (sym me ∙ (ap (λ i. get_elem? s.views i) (sym e) ∙ r.task))))) ∙ r.task
+      → get_elem? (set s.views id w) r.seat ≡ some (Task r.notes r.told)
+  not_task n s r id v w me other = set_else s.views id r.seat w (λ (e : r.seat ≡ id). other (ap is_task (some-injective v (Task r.notes r.told) (sym me ∙ (ap (λ i. get_elem? s.views i) (sym e) ∙ r.task))))) ∙ r.task
 
   pub posted_at : (k : ℕ) (h : Maybe (Maybe (Option W))) (vs : List (View J)) (c : ℕ) (note : Note J) → k ≡ 1 → Stands job was_run has_result k h vs c note
       → (j : J) × (note ≡ Out j) × Posted job was_run has_result k h vs c j
@@ -190,7 +198,7 @@ module _ {W J : Type 0} (job : W → J) (was_run : W → Bool) (has_result : W �
       let w : View J = Worker (Some (c, job work)) in
       remade n s r c 2 id (set s.homes c none) (Worker None) w r.notes below me
       (not_task n s r id (Worker None) w me (λ (e : 0 ≡ 1). omega arith))
-      (λ ns (e : w ≡ Task ns). absurd (let z : 0 ≡ 1 = ap is_task e in omega arith))
+      (λ ns b (e : w ≡ Task ns b). absurd (let z : 0 ≡ 1 = ap is_task e in omega arith))
       r.all (length-set s.homes c none) (λ d ne. refl) (λ d ne. set_else s.homes c d none ne)
       (λ d j ne e. let z : 0 ≡ suc d = ap (λ (v : View J). cell_of (held_of v)) e in omega arith)
       (λ d j ne e. ne (sym (worker_cell c d (job work) j e)))
@@ -243,7 +251,7 @@ module _ {W J : Type 0} (job : W → J) (was_run : W → Bool) (has_result : W �
       let job_is : j ≡ p.0 = ap (λ (v : View J). job_from j (held_of v)) (some-injective (Worker (Some (c, j))) (Worker (Some (c, p.0))) (sym me ∙ (ap (λ i. get_elem? s.views i) mine ∙ p.2.one.notes))) in
       remade n s r c 3 id (set s.homes c (some (Some work))) (Worker (Some (c, j))) (Worker None) r.notes below me
       (not_task n s r id (Worker (Some (c, j))) (Worker None) me (λ (e : 0 ≡ 1). omega arith))
-      (λ ns (e : Worker None ≡ Task ns). absurd (let z : 0 ≡ 1 = ap is_task e in omega arith))
+      (λ ns b (e : Worker None ≡ Task ns b). absurd (let z : 0 ≡ 1 = ap is_task e in omega arith))
       r.all (length-set s.homes c (some (Some work))) (λ d ne. refl) (λ d ne. set_else s.homes c d (some (Some work)) ne)
       (λ d i ne e. ne (sym (worker_cell c d j i e)))
       (λ d i ne e. let z : 0 ≡ suc d = ap (λ (v : View J). cell_of (held_of v)) e in omega arith)
@@ -277,32 +285,35 @@ module _ {W J : Type 0} (job : W → J) (was_run : W → Bool) (has_result : W �
       (Worker None, gives, tt, give_keeps n id c j s work r below me ran same result, refl)
 
   -- what the task's view says is what the rule says
-  pub notes_same : (n id : ℕ) (s : State (Option W) (View J)) (notes : List (Note J)) (r : Ruled job was_run has_result n s) → get_elem? s.views id ≡ some (Task notes) → notes ≡ r.notes
-  notes_same n id s notes r me = task_same notes r.notes (some-injective (Task notes) (Task r.notes) (sym me ∙ (ap (λ i. get_elem? s.views i) (r.one_task id notes me) ∙ r.task)))
+  pub view_same : (n id : ℕ) (s : State (Option W) (View J)) (notes : List (Note J)) (told : Bool) (r : Ruled job was_run has_result n s) → get_elem? s.views id ≡ some (Task notes told) → Task notes told ≡ Task r.notes r.told
+  view_same n id s notes told r me = some-injective (Task notes told) (Task r.notes r.told) (sym me ∙ (ap (λ i. get_elem? s.views i) (r.one_task id notes told me) ∙ r.task))
+
+  pub notes_same : (n id : ℕ) (s : State (Option W) (View J)) (notes : List (Note J)) (told : Bool) (r : Ruled job was_run has_result n s) → get_elem? s.views id ≡ some (Task notes told) → notes ≡ r.notes
+  notes_same n id s notes told r me = task_same notes r.notes told r.told (view_same n id s notes told r me)
 
   -- what stands at a cell whose word is 3
-  pub collect_tells : (n id c : ℕ) (s : State (Option W) (View J)) (notes : List (Note J)) (work : W) → Ruled job was_run has_result n s → c < n → get_elem? s.views id ≡ some (Task notes)
+  pub collect_tells : (n id c : ℕ) (s : State (Option W) (View J)) (notes : List (Note J)) (told : Bool) (work : W) → Ruled job was_run has_result n s → c < n → get_elem? s.views id ≡ some (Task notes told)
       → get_or s.words c 0 ≡ 3 → get_elem? s.homes c ≡ some (some (Some work))
       → (get_elem? notes c ≡ some (Out (job work))) × (was_run work ≡ true) × has_result work
-  collect_tells n id c s notes work r below me word slot =
+  collect_tells n id c s notes told work r below me word slot =
       let at = noted r.notes c (omega (arith, r.all)) in
       let p = returned_at (get_or s.words c 0) (get_elem? s.homes c) s.views c at.0 word (r.cells c at.0 at.1) in
       let work_is : p.2.work ≡ work = ap (slot_work work) (sym p.2.in_slot ∙ slot) in
-      let noted_is : get_elem? notes c ≡ some (Out (job p.2.work)) = ap (λ (l : List (Note J)). get_elem? l c) (notes_same n id s notes r me) ∙ (at.1 ∙ (ap (λ (x : Note J). some x) p.1 ∙ ap (λ (j : J). some (Out j)) (sym p.2.same))) in
+      let noted_is : get_elem? notes c ≡ some (Out (job p.2.work)) = ap (λ (l : List (Note J)). get_elem? l c) (notes_same n id s notes told r me) ∙ (at.1 ∙ (ap (λ (x : Note J). some x) p.1 ∙ ap (λ (j : J). some (Out j)) (sym p.2.same))) in
       subst (λ (w : W). (get_elem? notes c ≡ some (Out (job w))) × (was_run w ≡ true) × has_result w) work_is (noted_is, p.2.ran, p.2.result)
 
-  unfoldable pub collect_keeps : (n id c : ℕ) (s : State (Option W) (View J)) (notes : List (Note J)) → Ruled job was_run has_result n s → c < n → get_elem? s.views id ≡ some (Task notes) → get_or s.words c 0 ≡ 3
-      → Ruled job was_run has_result n record { words = set s.words c 0; homes = set s.homes c none; views = set s.views id (Task (set notes c Home)) }
-  collect_keeps n id c s notes r below me word =
-      let mine : id ≡ r.seat = r.one_task id notes me in
-      let same : notes ≡ r.notes = notes_same n id s notes r me in
+  unfoldable pub collect_keeps : (n id c : ℕ) (s : State (Option W) (View J)) (notes : List (Note J)) (told : Bool) → Ruled job was_run has_result n s → c < n → get_elem? s.views id ≡ some (Task notes told) → get_or s.words c 0 ≡ 3
+      → Ruled job was_run has_result n record { words = set s.words c 0; homes = set s.homes c none; views = set s.views id (Task (set notes c Home) told) }
+  collect_keeps n id c s notes told r below me word =
+      let mine : id ≡ r.seat = r.one_task id notes told me in
+      let same : notes ≡ r.notes = notes_same n id s notes told r me in
       let at = noted r.notes c (omega (arith, r.all)) in
       let p = returned_at (get_or s.words c 0) (get_elem? s.homes c) s.views c at.0 word (r.cells c at.0 at.1) in
-      let w : View J = Task (set notes c Home) in
+      let w : View J = Task (set notes c Home) told in
       let long : c < length notes = omega (arith, r.all, ap length same) in
-      remade n s r c 0 id (set s.homes c none) (Task notes) w (set notes c Home) below me
-      (ap (λ i. get_elem? (set s.views id w) i) (sym mine) ∙ set_here s.views id w (within s.views id (Task notes) me))
-      (λ ns e. mine)
+      remade n s r c 0 id (set s.homes c none) (Task notes told) w (set notes c Home) below me
+      (ap (λ i. get_elem? (set s.views id w) i) (sym mine) ∙ (set_here s.views id w (within s.views id (Task notes told) me) ∙ ap (λ (b : Bool). some (Task (set notes c Home) b)) (told_same notes r.notes told r.told (view_same n id s notes told r me))))
+      (λ ns b e. mine)
       (length-set notes c Home ∙ (ap length same ∙ r.all)) (length-set s.homes c none)
       (λ d ne. set_else notes c d Home ne ∙ ap (λ (l : List (Note J)). get_elem? l d) same) (λ d ne. set_else s.homes c d none ne)
       (λ d j ne e. let z : 0 ≡ suc d = ap (λ (v : View J). cell_of (held_of v)) e in omega arith)
@@ -316,35 +327,35 @@ module _ {W J : Type 0} (job : W → J) (was_run : W → Bool) (has_result : W �
             (at_set s.views id other w (Worker (Some (c, j))) m)),
       )
 
-  pub collects : (n slots id c : ℕ) (notes : List (Note J)) (held : List (ℕ × Option W)) → c < n
-      → Allows (Ruled job was_run has_result n) slots id (Task notes, held) c (λ x. either (eqb x 3) 0 x) (collected job was_run has_result (step slots c 3 0 none) (Task notes, held))
-  collects n slots id c notes held below s r deep me _ =
+  pub collects : (n slots id c : ℕ) (notes : List (Note J)) (told : Bool) (held : List (ℕ × Option W)) → c < n
+      → Allows (Ruled job was_run has_result n) slots id (Task notes told, held) c (λ x. either (eqb x 3) 0 x) (collected job was_run has_result (step slots c 3 0 none) (Task notes told, held))
+  collects n slots id c notes told held below s r deep me _ =
       let at = noted r.notes c (omega (arith, r.all)) in
       exchanged (get_or s.words c 0) 3 0
-      (λ k. (w : View J) × (a : Act (Option W)) × Valid s.homes held a × Ruled job was_run has_result n (stepped s c k id held w a) × collected job was_run has_result (step slots c 3 0 none) (Task notes, held) (get_or s.words c 0) (w, carried_after held a))
+      (λ k. (w : View J) × (a : Act (Option W)) × Valid s.homes held a × Ruled job was_run has_result n (stepped s c k id held w a) × collected job was_run has_result (step slots c 3 0 none) (Task notes told, held) (get_or s.words c 0) (w, carried_after held a))
       (λ e. let p = returned_at (get_or s.words c 0) (get_elem? s.homes c) s.views c at.0 e (r.cells c at.0 at.1) in
-      let told = collect_tells n id c s notes p.2.work r below me e p.2.in_slot in (
-        Task (set notes c Home),
+      let tells = collect_tells n id c s notes told p.2.work r below me e p.2.in_slot in (
+        Task (set notes c Home) told,
         takes c (Some p.2.work),
         p.2.in_slot,
-        collect_keeps n id c s notes r below me e,
-        ((λ _. (p.2.work, refl, told.1, told.2, told.0)), (λ ne. absurd (ne e))),
+        collect_keeps n id c s notes told r below me e,
+        ((λ _. (p.2.work, refl, tells.1, tells.2, tells.0)), (λ ne. absurd (ne e))),
       ))
-      (λ ne. (Task notes, keeps, tt, still n c id (Task notes, held) s r me, ((λ e. absurd (ne e)), (λ _. refl))))
+      (λ ne. (Task notes told, keeps, tt, still n c id (Task notes told, held) s r me, ((λ e. absurd (ne e)), (λ _. refl))))
 
-  unfoldable pub post_keeps : (n id c : ℕ) (s : State (Option W) (View J)) (notes : List (Note J)) (work : W) → Ruled job was_run has_result n s → c < n → get_elem? s.views id ≡ some (Task notes)
+  unfoldable pub post_keeps : (n id c : ℕ) (s : State (Option W) (View J)) (notes : List (Note J)) (told : Bool) (work : W) → Ruled job was_run has_result n s → c < n → get_elem? s.views id ≡ some (Task notes told)
       → was_run work ≡ false → get_elem? notes c ≡ some Home
-      → Ruled job was_run has_result n record { words = set s.words c 1; homes = set s.homes c (some (Some work)); views = set s.views id (Task (set notes c (Out (job work)))) }
-  post_keeps n id c s notes work r below me fresh home =
-      let mine : id ≡ r.seat = r.one_task id notes me in
-      let same : notes ≡ r.notes = notes_same n id s notes r me in
+      → Ruled job was_run has_result n record { words = set s.words c 1; homes = set s.homes c (some (Some work)); views = set s.views id (Task (set notes c (Out (job work))) told) }
+  post_keeps n id c s notes told work r below me fresh home =
+      let mine : id ≡ r.seat = r.one_task id notes told me in
+      let same : notes ≡ r.notes = notes_same n id s notes told r me in
       let old = r.cells c Home (sym (ap (λ (l : List (Note J)). get_elem? l c) same) ∙ home) in
       let notes' : List (Note J) = set notes c (Out (job work)) in
-      let w : View J = Task notes' in
+      let w : View J = Task notes' told in
       let long : c < length notes = omega (arith, r.all, ap length same) in
-      remade n s r c 1 id (set s.homes c (some (Some work))) (Task notes) w notes' below me
-      (ap (λ i. get_elem? (set s.views id w) i) (sym mine) ∙ set_here s.views id w (within s.views id (Task notes) me))
-      (λ ns e. mine)
+      remade n s r c 1 id (set s.homes c (some (Some work))) (Task notes told) w notes' below me
+      (ap (λ i. get_elem? (set s.views id w) i) (sym mine) ∙ (set_here s.views id w (within s.views id (Task notes told) me) ∙ ap (λ (b : Bool). some (Task notes' b)) (told_same notes r.notes told r.told (view_same n id s notes told r me))))
+      (λ ns b e. mine)
       (length-set notes c (Out (job work)) ∙ (ap length same ∙ r.all)) (length-set s.homes c (some (Some work)))
       (λ d ne. set_else notes c d (Out (job work)) ne ∙ ap (λ (l : List (Note J)). get_elem? l d) same) (λ d ne. set_else s.homes c d (some (Some work)) ne)
       (λ d j ne e. let z : 0 ≡ suc d = ap (λ (v : View J). cell_of (held_of v)) e in omega arith)
@@ -362,28 +373,28 @@ module _ {W J : Type 0} (job : W → J) (was_run : W → Bool) (has_result : W �
             (at_set s.views id other w (Worker (Some (c, j))) m);
       })
 
-  pub posts : (n slots id c : ℕ) (notes : List (Note J)) (work : W) (held : List (ℕ × Option W)) → c < n → was_run work ≡ false → get_elem? notes c ≡ some Home
-      → Allows (Ruled job was_run has_result n) slots id (Task notes, (c, Some work) ∷ held) c (λ _. 1) (λ r. posted job (step slots c 1 0 none) (Task notes, (c, Some work) ∷ held) 1)
-  posts n slots id c notes work held below fresh home s r deep me _ = (
-    Task (set notes c (Out (job work))),
+  pub posts : (n slots id c : ℕ) (notes : List (Note J)) (told : Bool) (work : W) (held : List (ℕ × Option W)) → c < n → was_run work ≡ false → get_elem? notes c ≡ some Home
+      → Allows (Ruled job was_run has_result n) slots id (Task notes told, (c, Some work) ∷ held) c (λ _. 1) (λ r. posted job (step slots c 1 0 none) (Task notes told, (c, Some work) ∷ held) 1)
+  posts n slots id c notes told work held below fresh home s r deep me _ = (
+    Task (set notes c (Out (job work))) told,
     gives,
     tt,
-    post_keeps n id c s notes work r below me fresh home,
-    (λ x e. ap (λ (y : W). (Task (set notes c (Out (job y))), held)) (ap (front_or work) e)),
+    post_keeps n id c s notes told work r below me fresh home,
+    (λ x e. ap (λ (y : W). (Task (set notes c (Out (job y))) told, held)) (ap (front_or work) e)),
   )
 
-  unfoldable pub open_keeps : (n id c : ℕ) (s : State (Option W) (View J)) (notes : List (Note J)) → Ruled job was_run has_result n s → c < n → get_elem? s.views id ≡ some (Task notes) → get_elem? notes c ≡ some Closed
-      → Ruled job was_run has_result n record { words = set s.words c (get_or s.words c 0); homes = set s.homes c none; views = set s.views id (Task (set notes c Home)) }
-  open_keeps n id c s notes r below me closed =
-      let mine : id ≡ r.seat = r.one_task id notes me in
-      let same : notes ≡ r.notes = notes_same n id s notes r me in
+  unfoldable pub open_keeps : (n id c : ℕ) (s : State (Option W) (View J)) (notes : List (Note J)) (told : Bool) → Ruled job was_run has_result n s → c < n → get_elem? s.views id ≡ some (Task notes told) → get_elem? notes c ≡ some Closed
+      → Ruled job was_run has_result n record { words = set s.words c (get_or s.words c 0); homes = set s.homes c none; views = set s.views id (Task (set notes c Home) told) }
+  open_keeps n id c s notes told r below me closed =
+      let mine : id ≡ r.seat = r.one_task id notes told me in
+      let same : notes ≡ r.notes = notes_same n id s notes told r me in
       let old = r.cells c Closed (sym (ap (λ (l : List (Note J)). get_elem? l c) same) ∙ closed) in
       let notes' : List (Note J) = set notes c Home in
-      let w : View J = Task notes' in
+      let w : View J = Task notes' told in
       let long : c < length notes = omega (arith, r.all, ap length same) in
-      remade n s r c (get_or s.words c 0) id (set s.homes c none) (Task notes) w notes' below me
-      (ap (λ i. get_elem? (set s.views id w) i) (sym mine) ∙ set_here s.views id w (within s.views id (Task notes) me))
-      (λ ns e. mine)
+      remade n s r c (get_or s.words c 0) id (set s.homes c none) (Task notes told) w notes' below me
+      (ap (λ i. get_elem? (set s.views id w) i) (sym mine) ∙ (set_here s.views id w (within s.views id (Task notes told) me) ∙ ap (λ (b : Bool). some (Task notes' b)) (told_same notes r.notes told r.told (view_same n id s notes told r me))))
+      (λ ns b e. mine)
       (length-set notes c Home ∙ (ap length same ∙ r.all)) (length-set s.homes c none)
       (λ d ne. set_else notes c d Home ne ∙ ap (λ (l : List (Note J)). get_elem? l d) same) (λ d ne. set_else s.homes c d none ne)
       (λ d j ne e. let z : 0 ≡ suc d = ap (λ (v : View J). cell_of (held_of v)) e in omega arith)
@@ -397,47 +408,47 @@ module _ {W J : Type 0} (job : W → J) (was_run : W → Bool) (has_result : W �
             (at_set s.views id other w (Worker (Some (c, j))) m)),
       )
 
-  pub opens : (n slots id c : ℕ) (notes : List (Note J)) (held : List (ℕ × Option W)) → c < n → get_elem? notes c ≡ some Closed
-      → Allows (Ruled job was_run has_result n) slots id (Task notes, held) c (λ x. x) (opened (step slots c 0 0 none) (Task notes, held))
-  opens n slots id c notes held below closed s r deep me _ =
-      let same : notes ≡ r.notes = notes_same n id s notes r me in
+  pub opens : (n slots id c : ℕ) (notes : List (Note J)) (told : Bool) (held : List (ℕ × Option W)) → c < n → get_elem? notes c ≡ some Closed
+      → Allows (Ruled job was_run has_result n) slots id (Task notes told, held) c (λ x. x) (opened (step slots c 0 0 none) (Task notes told, held))
+  opens n slots id c notes told held below closed s r deep me _ =
+      let same : notes ≡ r.notes = notes_same n id s notes told r me in
       let old = r.cells c Closed (sym (ap (λ (l : List (Note J)). get_elem? l c) same) ∙ closed) in
-      (Task (set notes c Home), takes c None, old.1, open_keeps n id c s notes r below me closed, refl)
+      (Task (set notes c Home) told, takes c None, old.1, open_keeps n id c s notes told r below me closed, refl)
 
   unfoldable pub starts : (n : ℕ) (words : List ℕ) → words ≡ replicate (n + 3) 0
-      → Ruled job was_run has_result n (opening words (replicate n None) (Task (replicate n Closed)))
+      → Ruled job was_run has_result n (opening words (replicate n None) (Task (replicate n Closed) false))
   starts n words zeros =
       let each : (c : ℕ) → c < n + 3 → get_or words c 0 ≡ 0 = λ c h. ap (λ (l : List ℕ). get_or l c 0) zeros ∙ get_or-replicate (n + 3) c 0 0 h in
-      let only : (seat : ℕ) (v : View J) → get_elem? (Task (replicate n Closed) ∷ []) seat ≡ some v → (seat ≡ 0) × (Task (replicate n Closed) ≡ v) = one_view (Task (replicate n Closed)) in
+      let only : (seat : ℕ) (v : View J) → get_elem? (Task (replicate n Closed) false ∷ []) seat ≡ some v → (seat ≡ 0) × (Task (replicate n Closed) false ≡ v) = one_view (Task (replicate n Closed) false) in
       record {
         wide = ap length zeros ∙ length-replicate (n + 3) 0;
         deep = ap length (map_replicate some n None) ∙ length-replicate n (some None);
-        stop = let z = each n (omega arith) in omega arith;
         seat = 0;
         notes = replicate n Closed;
+        told = false;
+        stop = each n (omega arith);
         task = refl;
-        one_task = λ other ns e. (only other (Task ns) e).0;
+        one_task = λ other ns b e. (only other (Task ns b) e).0;
         all = length-replicate n Closed;
         cells = λ c note e.
             let below : c < n = subst (λ (k : ℕ). c < k) (length-replicate n Closed) (within_notes (replicate n Closed) c note e) in
-            subst (Stands job was_run has_result (get_or words c 0) (get_elem? (map some (replicate n None)) c) (Task (replicate n Closed) ∷ []) c) (at_replicate n c Closed note e) (
+            subst (Stands job was_run has_result (get_or words c 0) (get_elem? (map some (replicate n None)) c) (Task (replicate n Closed) false ∷ []) c) (at_replicate n c Closed note e) (
               each c (omega arith),
               ap (λ (l : List (Maybe (Option W))). get_elem? l c) (map_replicate some n None) ∙ in_replicate n c (some None) below,
               (λ seat j m. let z : 1 ≡ 0 = ap is_task (only seat (Worker (Some (c, j))) m).1 in absurd (omega arith)),
             );
       }
 
-  -- another number in one of the last three words
-  unfoldable pub signal_keeps : (n i x : ℕ) (s : State (Option W) (View J)) → Ruled job was_run has_result n s → n ≤ i → (i ≡ n → x ≤ 1)
+  -- another number in a bell
+  unfoldable pub signal_keeps : (n i x : ℕ) (s : State (Option W) (View J)) → Ruled job was_run has_result n s → n < i
       → Ruled job was_run has_result n record { words = set s.words i x; homes = s.homes; views = s.views }
-  signal_keeps n i x s r past low = record {
+  signal_keeps n i x s r past = record {
     wide = length-set s.words i x ∙ r.wide;
     deep = r.deep;
-    stop = dite (ℕ_discrete n i)
-        (λ (e : n ≡ i). subst (λ (k : ℕ). k ≤ 1) (sym (ap (λ k. get_or (set s.words i x) k 0) e ∙ get_or-set_same s.words i x 0 (let z = r.wide in omega arith))) (low (sym e)))
-        (λ (ne : n ≢ i). subst (λ (k : ℕ). k ≤ 1) (sym (get_or-set_other s.words i n x 0 ne)) r.stop);
     seat = r.seat;
     notes = r.notes;
+    told = r.told;
+    stop = get_or-set_other s.words i n x 0 (λ (e : n ≡ i). absurd (omega arith)) ∙ r.stop;
     task = r.task;
     one_task = r.one_task;
     all = r.all;
@@ -447,16 +458,16 @@ module _ {W J : Type 0} (job : W → J) (was_run : W → Bool) (has_result : W �
         (r.cells c note e);
   }
 
-  -- a step on one of the last three words, with the views as they are
-  pub signals : (n slots id i : ℕ) (m : Me (Option W) (View J)) (f : ℕ → ℕ) (then : ℕ → Me (Option W) (View J) → Type 0) → n ≤ i → (i ≡ n → (x : ℕ) → f x ≤ 1) → ((x : ℕ) → then x m)
+  -- a step on a bell, with the views as they are
+  pub signals : (n slots id i : ℕ) (m : Me (Option W) (View J)) (f : ℕ → ℕ) (then : ℕ → Me (Option W) (View J) → Type 0) → n < i → ((x : ℕ) → then x m)
       → Allows (Ruled job was_run has_result n) slots id m i f then
-  signals n slots id i m f then past low told s r deep me _ = (
+  signals n slots id i m f then past same s r deep me _ = (
     m.0,
     keeps,
     tt,
     subst (λ (vs : List (View J)). Ruled job was_run has_result n record { words = set s.words i (f (get_or s.words i 0)); homes = s.homes; views = vs }) (sym (set_again s.views id m.0 me))
-        (signal_keeps n i (f (get_or s.words i 0)) s r past (λ e. low e (get_or s.words i 0))),
-    told (get_or s.words i 0),
+        (signal_keeps n i (f (get_or s.words i 0)) s r past),
+    same (get_or s.words i 0),
   )
 
   unfoldable pub split_keeps : (n : ℕ) (s : State (Option W) (View J)) → Ruled job was_run has_result n s
@@ -464,11 +475,12 @@ module _ {W J : Type 0} (job : W → J) (was_run : W → Bool) (has_result : W �
   split_keeps n s r = record {
     wide = r.wide;
     deep = r.deep;
-    stop = r.stop;
     seat = r.seat;
     notes = r.notes;
-    task = at_longer s.views (Worker None ∷ []) r.seat (Task r.notes) r.task;
-    one_task = λ other ns e. ⊎_elim (λ t. r.one_task other ns t) (λ (t : Worker None ≡ Task ns). let z : 0 ≡ 1 = ap is_task t in absurd (omega arith)) (at_snoc s.views (Worker None) (Task ns) other e);
+    told = r.told;
+    stop = r.stop;
+    task = at_longer s.views (Worker None ∷ []) r.seat (Task r.notes r.told) r.task;
+    one_task = λ other ns b e. ⊎_elim (λ t. r.one_task other ns b t) (λ (t : Worker None ≡ Task ns b). let z : 0 ≡ 1 = ap is_task t in absurd (omega arith)) (at_snoc s.views (Worker None) (Task ns b) other e);
     all = r.all;
     cells = λ c note e. frame (get_or s.words c 0) (get_or s.words c 0) (get_elem? s.homes c) (get_elem? s.homes c) s.views (s.views ++ Worker None ∷ []) c refl refl
         (λ seat j m. ⊎_elim (λ t. t) (λ (t : Worker None ≡ Worker (Some (c, j))). let z : 0 ≡ suc c = ap (λ (v : View J). cell_of (held_of v)) t in absurd (omega arith)) (at_snoc s.views (Worker None) (Worker (Some (c, j))) seat m))
@@ -485,11 +497,12 @@ module _ {W J : Type 0} (job : W → J) (was_run : W → Bool) (has_result : W �
   join_keeps n other s r there = record {
     wide = r.wide;
     deep = r.deep;
-    stop = r.stop;
     seat = r.seat;
     notes = r.notes;
+    told = r.told;
+    stop = r.stop;
     task = not_task n s r other (Worker None) Spent there (λ (e : 0 ≡ 1). omega arith);
-    one_task = λ seat ns e. ⊎_elim (λ t. let z : 2 ≡ 1 = ap is_task t.1 in absurd (omega arith)) (λ t. r.one_task seat ns t.1) (at_set s.views other seat Spent (Task ns) e);
+    one_task = λ seat ns b e. ⊎_elim (λ t. let z : 2 ≡ 1 = ap is_task t.1 in absurd (omega arith)) (λ t. r.one_task seat ns b t.1) (at_set s.views other seat Spent (Task ns b) e);
     all = r.all;
     cells = λ c note e. frame (get_or s.words c 0) (get_or s.words c 0) (get_elem? s.homes c) (get_elem? s.homes c) s.views (set s.views other Spent) c refl refl
         (λ seat j m. ⊎_elim (λ t. let z : 2 ≡ 0 = ap is_task t.1 in absurd (omega arith)) (λ t. t.1) (at_set s.views other seat Spent (Worker (Some (c, j))) m))
@@ -516,23 +529,23 @@ module _ {W J : Type 0} (job : W → J) (was_run : W → Bool) (has_result : W �
       subst (λ (x : Me (Option W) (View J)). Allows (Ruled job was_run has_result n) slots id x c (λ _. 3) (λ r. given_back (step slots c 3 0 none) x 3))
       (sym is) (gives_back n slots id c j work below ran same result)
 
-  pub collects_at : (n slots id c : ℕ) (m : Me (Option W) (View J)) → c < n → m.0 ≡ Task (notes_of m.0)
+  pub collects_at : (n slots id c : ℕ) (m : Me (Option W) (View J)) → c < n → m.0 ≡ Task (notes_of m.0) (told_of m.0)
       → Allows (Ruled job was_run has_result n) slots id m c (λ x. either (eqb x 3) 0 x) (collected job was_run has_result (step slots c 3 0 none) m)
   collects_at n slots id c m below is =
       subst (λ (v : View J). Allows (Ruled job was_run has_result n) slots id (v, m.1) c (λ x. either (eqb x 3) 0 x) (collected job was_run has_result (step slots c 3 0 none) (v, m.1)))
-      (sym is) (collects n slots id c (notes_of m.0) m.1 below)
+      (sym is) (collects n slots id c (notes_of m.0) (told_of m.0) m.1 below)
 
-  pub opens_at : (n slots id c : ℕ) (m : Me (Option W) (View J)) → c < n → m.0 ≡ Task (notes_of m.0) → get_elem? (notes_of m.0) c ≡ some Closed
+  pub opens_at : (n slots id c : ℕ) (m : Me (Option W) (View J)) → c < n → m.0 ≡ Task (notes_of m.0) (told_of m.0) → get_elem? (notes_of m.0) c ≡ some Closed
       → Allows (Ruled job was_run has_result n) slots id m c (λ x. x) (opened (step slots c 0 0 none) m)
   opens_at n slots id c m below is closed =
       subst (λ (v : View J). Allows (Ruled job was_run has_result n) slots id (v, m.1) c (λ x. x) (opened (step slots c 0 0 none) (v, m.1)))
-      (sym is) (opens n slots id c (notes_of m.0) m.1 below closed)
+      (sym is) (opens n slots id c (notes_of m.0) (told_of m.0) m.1 below closed)
 
-  pub posts_at : (n slots id c : ℕ) (work : W) (m : Me (Option W) (View J)) → c < n → m.0 ≡ Task (notes_of m.0) → m.1 ≡ (c, Some work) ∷ rest m.1 → was_run work ≡ false → get_elem? (notes_of m.0) c ≡ some Home
+  pub posts_at : (n slots id c : ℕ) (work : W) (m : Me (Option W) (View J)) → c < n → m.0 ≡ Task (notes_of m.0) (told_of m.0) → m.1 ≡ (c, Some work) ∷ rest m.1 → was_run work ≡ false → get_elem? (notes_of m.0) c ≡ some Home
       → Allows (Ruled job was_run has_result n) slots id m c (λ _. 1) (λ r. posted job (step slots c 1 0 none) m 1)
   posts_at n slots id c work m below is front fresh home =
       subst (λ (x : Me (Option W) (View J)). Allows (Ruled job was_run has_result n) slots id x c (λ _. 1) (λ r. posted job (step slots c 1 0 none) x 1))
-      (λ i. (sym is i, sym front i)) (posts n slots id c (notes_of m.0) work (rest m.1) below fresh home)
+      (λ i. (sym is i, sym front i)) (posts n slots id c (notes_of m.0) (told_of m.0) work (rest m.1) below fresh home)
 
   pub splits_at : (n id : ℕ) (v : View J) → Splits (Ruled job was_run has_result n) id v v (Worker None)
   splits_at = splits
@@ -542,8 +555,40 @@ module _ {W J : Type 0} (job : W → J) (was_run : W → Bool) (has_result : W �
 
   pub rings : (n slots id i : ℕ) (m : Me (Option W) (View J)) → n < i
       → Allows (Ruled job was_run has_result n) slots id m i (λ x. (x + 1) % 2 ^ 64) (looked (step slots i 1 0 none) m)
-  rings n slots id i m past = signals n slots id i m (λ x. (x + 1) % 2 ^ 64) (looked (step slots i 1 0 none) m) (omega arith) (λ e. absurd (omega arith)) (λ x. refl)
+  rings n slots id i m past = signals n slots id i m (λ x. (x + 1) % 2 ^ 64) (looked (step slots i 1 0 none) m) past (λ x. refl)
 
-  pub stops : (n slots id : ℕ) (m : Me (Option W) (View J))
-      → Allows (Ruled job was_run has_result n) slots id m n (λ x. 1) (λ r. looked (step slots n 1 0 none) m 1)
-  stops n slots id m = signals n slots id n m (λ x. 1) (λ r. looked (step slots n 1 0 none) m 1) (omega arith) (λ e x. omega arith) (λ x. refl)
+  -- the task tells stop
+  unfoldable pub stop_keeps : (n id : ℕ) (s : State (Option W) (View J)) (notes : List (Note J)) (told : Bool) → Ruled job was_run has_result n s → get_elem? s.views id ≡ some (Task notes told)
+      → Ruled job was_run has_result n record { words = set s.words n 1; homes = s.homes; views = set s.views id (Task notes true) }
+  stop_keeps n id s notes told r me =
+      let mine : id ≡ r.seat = r.one_task id notes told me in
+      let same : notes ≡ r.notes = notes_same n id s notes told r me in
+      let w : View J = Task notes true in
+      record {
+        wide = length-set s.words n 1 ∙ r.wide;
+        deep = r.deep;
+        seat = r.seat;
+        notes = notes;
+        told = true;
+        stop = get_or-set_same s.words n 1 0 (let z = r.wide in omega arith);
+        task = ap (λ i. get_elem? (set s.views id w) i) (sym mine) ∙ set_here s.views id w (within s.views id (Task notes told) me);
+        one_task = λ other ns b e. ⊎_elim (λ t. t.0 ∙ mine) (λ t. r.one_task other ns b t.1) (at_set s.views id other w (Task ns b) e);
+        all = ap length same ∙ r.all;
+        cells = λ c note e.
+            let below : c < length notes = within_notes notes c note e in
+            frame (get_or s.words c 0) (get_or (set s.words n 1) c 0) (get_elem? s.homes c) (get_elem? s.homes c) s.views (set s.views id w) c
+            (get_or-set_other s.words n c 1 0 (λ (e : c ≡ n). absurd (omega (arith, r.all, ap length same)))) refl
+            (λ seat j m. ⊎_elim (λ t. let z : 1 ≡ 0 = ap is_task t.1 in absurd (omega arith)) (λ t. t.1) (at_set s.views id seat w (Worker (Some (c, j))) m))
+            (λ seat j m. set_else s.views id seat w (λ (e : seat ≡ id). let z : 1 ≡ 0 = ap is_task (some-injective (Task notes told) (Worker (Some (c, j))) (sym me ∙ (ap (λ i. get_elem? s.views i) (sym e) ∙ m))) in absurd (omega arith)) ∙ m)
+            note (r.cells c note (sym (ap (λ (l : List (Note J)). get_elem? l c) same) ∙ e));
+      }
+
+  pub stops : (n slots id : ℕ) (notes : List (Note J)) (told : Bool) (held : List (ℕ × Option W))
+      → Allows (Ruled job was_run has_result n) slots id (Task notes told, held) n (λ x. 1) (λ r. stop_told (step slots n 1 0 none) (Task notes told, held) 1)
+  stops n slots id notes told held s r deep me _ = (Task notes true, keeps, tt, stop_keeps n id s notes told r me, refl)
+
+  pub stops_at : (n slots id : ℕ) (m : Me (Option W) (View J)) → m.0 ≡ Task (notes_of m.0) (told_of m.0)
+      → Allows (Ruled job was_run has_result n) slots id m n (λ x. 1) (λ r. stop_told (step slots n 1 0 none) m 1)
+  stops_at n slots id m is =
+      subst (λ (v : View J). Allows (Ruled job was_run has_result n) slots id (v, m.1) n (λ x. 1) (λ r. stop_told (step slots n 1 0 none) (v, m.1) 1))
+      (sym is) (stops n slots id (notes_of m.0) (told_of m.0) m.1)

@@ -10,7 +10,7 @@ use Rattle.ax_board.specs.declared.view.View.{View}
 use Rattle.ax_board.specs.declared.view.View.TheVariants.{Task, Worker}
 use Rattle.ax_board.specs.declared.view.Note.{Note}
 use Rattle.ax_board.specs.declared.view.Note.TheVariants.{Closed, Home, Out}
-use Rattle.ax_board.specs.Seats.{notes_of}
+use Rattle.ax_board.specs.Seats.{notes_of, told_of}
 use Rattle.ax_board.specs.Seats.{held_of, slots_of, one_if, times, is_home, at_home, homes_in, IsTask}
 
 true_or_false : {A : Type 0} → (b : Bool) → (b ≡ true → A) → (b ≡ false → A) → A
@@ -114,10 +114,10 @@ next_open J i n h =
 
 module _ {W J : Type 0} where
   -- a cell that comes home
-  pub comes_home : (notes : List (Note J)) (held : List (ℕ × Option W)) (order : List ℕ) (c : ℕ) (x : Option W)
-      → IsTask (Task notes, held) order notes → c < length notes → at_home notes c ≡ false
-      → IsTask (Task (set notes c Home), (c, x) ∷ held) (c ∷ order) (set notes c Home)
-  comes_home notes held order c x t below out = record {
+  pub comes_home : (notes : List (Note J)) (told : Bool) (held : List (ℕ × Option W)) (order : List ℕ) (c : ℕ) (x : Option W)
+      → IsTask (Task notes told, held) order notes → c < length notes → at_home notes c ≡ false
+      → IsTask (Task (set notes c Home) told, (c, x) ∷ held) (c ∷ order) (set notes c Home)
+  comes_home notes told held order c x t below out = record {
     view = refl;
     slots = ap (λ (l : List ℕ). c ∷ l) t.slots;
     once = λ d. dite (ℕ_discrete d c)
@@ -128,10 +128,10 @@ module _ {W J : Type 0} where
   }
 
   -- a cell that goes out
-  pub goes_out : (notes : List (Note J)) (held : List (ℕ × Option W)) (order : List ℕ) (c : ℕ) (x : Option W) (j : J)
-      → IsTask (Task notes, (c, x) ∷ held) (c ∷ order) notes → c < length notes → at_home notes c ≡ true
-      → IsTask (Task (set notes c (Out j)), held) order (set notes c (Out j))
-  goes_out notes held order c x j t below home = record {
+  pub goes_out : (notes : List (Note J)) (told : Bool) (held : List (ℕ × Option W)) (order : List ℕ) (c : ℕ) (x : Option W) (j : J)
+      → IsTask (Task notes told, (c, x) ∷ held) (c ∷ order) notes → c < length notes → at_home notes c ≡ true
+      → IsTask (Task (set notes c (Out j)) told, held) order (set notes c (Out j))
+  goes_out notes told held order c x j t below home = record {
     view = refl;
     slots = ap (drop 1) t.slots;
     once = λ d. dite (ℕ_discrete d c)
@@ -150,21 +150,21 @@ module _ {W J : Type 0} where
     few = length_turned order ∙ t.few;
   }
 
-  task_is : (m : Me (Option W) (View J)) (order : List ℕ) → IsTask m order (notes_of m.0) → IsTask (Task (notes_of m.0), m.1) order (notes_of m.0)
+  task_is : (m : Me (Option W) (View J)) (order : List ℕ) → IsTask m order (notes_of m.0) → IsTask (Task (notes_of m.0) (told_of m.0), m.1) order (notes_of m.0)
   task_is m order t = subst (λ (v : View J). IsTask (v, m.1) order (notes_of m.0)) t.view t
 
   pub comes : (m n : Me (Option W) (View J)) (order : List ℕ) (c : ℕ) (x : Option W) → IsTask m order (notes_of m.0) → c < length (notes_of m.0) → at_home (notes_of m.0) c ≡ false
-      → n ≡ (Task (set (notes_of m.0) c Home), (c, x) ∷ m.1) → IsTask n (c ∷ order) (notes_of n.0)
-  comes m n order c x t below out is = subst (λ (k : Me (Option W) (View J)). IsTask k (c ∷ order) (notes_of k.0)) (sym is) (comes_home (notes_of m.0) m.1 order c x (task_is m order t) below out)
+      → n ≡ (Task (set (notes_of m.0) c Home) (told_of m.0), (c, x) ∷ m.1) → IsTask n (c ∷ order) (notes_of n.0)
+  comes m n order c x t below out is = subst (λ (k : Me (Option W) (View J)). IsTask k (c ∷ order) (notes_of k.0)) (sym is) (comes_home (notes_of m.0) (told_of m.0) m.1 order c x (task_is m order t) below out)
 
   pub goes : (m n : Me (Option W) (View J)) (order more : List ℕ) (c : ℕ) (j : J) → IsTask m order (notes_of m.0) → c < length (notes_of m.0) → at_home (notes_of m.0) c ≡ true
-      → order ≡ c ∷ more → n ≡ (Task (set (notes_of m.0) c (Out j)), rest m.1) → IsTask n more (notes_of n.0)
+      → order ≡ c ∷ more → n ≡ (Task (set (notes_of m.0) c (Out j)) (told_of m.0), rest m.1) → IsTask n more (notes_of n.0)
   goes m n order more c j t below home first is =
       let front = in_front m.1 c more (t.slots ∙ first) in
-      let t' : IsTask (Task (notes_of m.0), (c, front.0) ∷ rest m.1) (c ∷ more) (notes_of m.0) =
-      subst (λ (o : List ℕ). IsTask (Task (notes_of m.0), (c, front.0) ∷ rest m.1) o (notes_of m.0)) first
-      (subst (λ (l : List (ℕ × Option W)). IsTask (Task (notes_of m.0), l) order (notes_of m.0)) front.1 (task_is m order t)) in
-      subst (λ (k : Me (Option W) (View J)). IsTask k more (notes_of k.0)) (sym is) (goes_out (notes_of m.0) (rest m.1) more c front.0 j t' below home)
+      let t' : IsTask (Task (notes_of m.0) (told_of m.0), (c, front.0) ∷ rest m.1) (c ∷ more) (notes_of m.0) =
+      subst (λ (o : List ℕ). IsTask (Task (notes_of m.0) (told_of m.0), (c, front.0) ∷ rest m.1) o (notes_of m.0)) first
+      (subst (λ (l : List (ℕ × Option W)). IsTask (Task (notes_of m.0) (told_of m.0), l) order (notes_of m.0)) front.1 (task_is m order t)) in
+      subst (λ (k : Me (Option W) (View J)). IsTask k more (notes_of k.0)) (sym is) (goes_out (notes_of m.0) (told_of m.0) (rest m.1) more c front.0 j t' below home)
 
   -- another value in the slot in front
   pub refilled : (m n : Me (Option W) (View J)) (order : List ℕ) (c : ℕ) (x y : Option W) → IsTask m order (notes_of m.0) → m.1 ≡ (c, x) ∷ rest m.1
@@ -187,22 +187,22 @@ module _ {W J : Type 0} where
   pub room_for : (m : Me (Option W) (View J)) (order : List ℕ) (c : ℕ) → IsTask m order (notes_of m.0) → c < length (notes_of m.0) → at_home (notes_of m.0) c ≡ false → length order < length (notes_of m.0)
   room_for m order c t below out = omega (arith, t.few, some_out (notes_of m.0) c below out)
 
-  pub flags_now : (m n : Me (Option W) (View J)) (c : ℕ) (note : Note J) (slots : List (ℕ × Option W)) → n ≡ (Task (set (notes_of m.0) c note), slots) → set (map is_home (notes_of m.0)) c (is_home note) ≡ map is_home (notes_of n.0)
+  pub flags_now : (m n : Me (Option W) (View J)) (c : ℕ) (note : Note J) (slots : List (ℕ × Option W)) → n ≡ (Task (set (notes_of m.0) c note) (told_of m.0), slots) → set (map is_home (notes_of m.0)) c (is_home note) ≡ map is_home (notes_of n.0)
   flags_now m n c note slots is = sym (map-set is_home (notes_of m.0) c note) ∙ sym (ap (λ (k : Me (Option W) (View J)). map is_home (notes_of k.0)) is)
 
-  pub length_now : (m n : Me (Option W) (View J)) (c : ℕ) (note : Note J) (slots : List (ℕ × Option W)) → n ≡ (Task (set (notes_of m.0) c note), slots) → length (notes_of n.0) ≡ length (notes_of m.0)
+  pub length_now : (m n : Me (Option W) (View J)) (c : ℕ) (note : Note J) (slots : List (ℕ × Option W)) → n ≡ (Task (set (notes_of m.0) c note) (told_of m.0), slots) → length (notes_of n.0) ≡ length (notes_of m.0)
   length_now m n c note slots is = ap (λ (k : Me (Option W) (View J)). length (notes_of k.0)) is ∙ length-set (notes_of m.0) c note
 
   -- the task's seat, once the slot in front was filled and given back
   pub posted_task : (a m n : Me (Option W) (View J)) (order more : List ℕ) (c : ℕ) (x y : Option W) (j : J) → IsTask a order (notes_of a.0) → order ≡ c ∷ more
       → m ≡ (a.0, (c, y) ∷ rest a.1) → c < length (notes_of a.0) → at_home (notes_of a.0) c ≡ true
-      → n ≡ (Task (set (notes_of m.0) c (Out j)), rest m.1) → IsTask n more (notes_of n.0)
+      → n ≡ (Task (set (notes_of m.0) c (Out j)) (told_of m.0), rest m.1) → IsTask n more (notes_of n.0)
   posted_task a m n order more c x y j t first filled below home is =
       let front = in_front a.1 c more (t.slots ∙ first) in
       let same : notes_of m.0 ≡ notes_of a.0 = ap (λ (k : Me (Option W) (View J)). notes_of k.0) filled in
       goes m n order more c j (refilled a m order c front.0 y t front.1 filled) (subst (λ (l : List (Note J)). c < length l) (sym same) below) (ap (λ (l : List (Note J)). at_home l c) same ∙ home) first is
 
-  pub closed_task : (n : ℕ) → IsTask {W = W} {J = J} (Task (replicate n Closed), []) [] (replicate n Closed)
+  pub closed_task : (n : ℕ) → IsTask {W = W} {J = J} (Task (replicate n Closed) false, []) [] (replicate n Closed)
   closed_task n = record {
     view = refl;
     slots = refl;

@@ -24,7 +24,7 @@ pub data Move (W : Type 0) : Type 0 where
 module _ {W J : Type 0} where
   -- all words are 0, the slots are at home and empty, and the one seat is the task's
   abbrev pub start : ℕ → State (Option W) (View J)
-  start n = opening (replicate (n + 3) 0) (replicate n None) (Task (replicate n Closed))
+  start n = opening (replicate (n + 3) 0) (replicate n None) (Task (replicate n Closed) false)
 
   module _ (job : W → J) where
     -- what the task notes after a step
@@ -44,11 +44,11 @@ module _ {W J : Type 0} where
       -- where the steps begin is s, and t is where they end. A board has n cells
       abbrev pub Does : ℕ → State (Option W) (View J) → Move W → State (Option W) (View J) → Type 0
       Does n s (opens c) t =
-          (seat : ℕ) × (notes : List (Note J)) × (c < n) × (get_elem? s.views seat ≡ some (Task notes)) × (get_elem? notes c ≡ some Closed)
-          × (t ≡ record { words = slice_set s.words c (slice_index s.words c); homes = slice_set s.homes c none; views = slice_set s.views seat (Task (slice_set notes c Home)) })
+          (seat : ℕ) × (notes : List (Note J)) × (told : Bool) × (c < n) × (get_elem? s.views seat ≡ some (Task notes told)) × (get_elem? notes c ≡ some Closed)
+          × (t ≡ record { words = slice_set s.words c (slice_index s.words c); homes = slice_set s.homes c none; views = slice_set s.views seat (Task (slice_set notes c Home) told) })
       Does n s (posts c work) t =
-          (seat : ℕ) × (notes : List (Note J)) × (c < n) × (get_elem? s.views seat ≡ some (Task notes)) × (get_elem? notes c ≡ some Home) × (was_run work ≡ false)
-          × (t ≡ record { words = slice_set s.words c 1; homes = slice_set s.homes c (some (Some work)); views = slice_set s.views seat (Task (slice_set notes c (Out (job work)))) })
+          (seat : ℕ) × (notes : List (Note J)) × (told : Bool) × (c < n) × (get_elem? s.views seat ≡ some (Task notes told)) × (get_elem? notes c ≡ some Home) × (was_run work ≡ false)
+          × (t ≡ record { words = slice_set s.words c 1; homes = slice_set s.homes c (some (Some work)); views = slice_set s.views seat (Task (slice_set notes c (Out (job work))) told) })
       Does n s (claims seat c work) t =
           (c < n) × (get_elem? s.views seat ≡ some (Worker None)) × (slice_index s.words c ≡ 1) × (get_elem? s.homes c ≡ some (some (Some work)))
           × (t ≡ record { words = slice_set s.words c 2; homes = slice_set s.homes c none; views = slice_set s.views seat (Worker (Some (c, job work))) })
@@ -56,11 +56,13 @@ module _ {W J : Type 0} where
           (c < n) × (get_elem? s.views seat ≡ some (Worker (Some (c, job work)))) × (was_run work ≡ true) × has_result work
           × (t ≡ record { words = slice_set s.words c 3; homes = slice_set s.homes c (some (Some work)); views = slice_set s.views seat (Worker None) })
       Does n s (collects c work) t =
-          (seat : ℕ) × (notes : List (Note J)) × (c < n) × (get_elem? s.views seat ≡ some (Task notes)) × (slice_index s.words c ≡ 3) × (get_elem? s.homes c ≡ some (some (Some work)))
-          × (t ≡ record { words = slice_set s.words c 0; homes = slice_set s.homes c none; views = slice_set s.views seat (Task (slice_set notes c Home)) })
+          (seat : ℕ) × (notes : List (Note J)) × (told : Bool) × (c < n) × (get_elem? s.views seat ≡ some (Task notes told)) × (slice_index s.words c ≡ 3) × (get_elem? s.homes c ≡ some (some (Some work)))
+          × (t ≡ record { words = slice_set s.words c 0; homes = slice_set s.homes c none; views = slice_set s.views seat (Task (slice_set notes c Home) told) })
       Does n s looks t = t ≡ s
-      Does n s stops t = t ≡ record { words = slice_set s.words n 1; homes = s.homes; views = s.views }
-      Does n s (rings bell) t = (n < bell) × (t ≡ record { words = slice_set s.words bell ((slice_index s.words bell + 1) % 2 ^ 64); homes = s.homes; views = s.views })
+      Does n s stops t =
+          (seat : ℕ) × (notes : List (Note J)) × (told : Bool) × (get_elem? s.views seat ≡ some (Task notes told))
+          × (t ≡ record { words = slice_set s.words n 1; homes = s.homes; views = slice_set s.views seat (Task notes true) })
+      Does n s (rings bell) t = (n < bell) × (bell < n + 3) × (t ≡ record { words = slice_set s.words bell ((slice_index s.words bell + 1) % 2 ^ 64); homes = s.homes; views = s.views })
       Does n s splits t = t ≡ record { words = s.words; homes = s.homes; views = s.views ++ Worker None ∷ [] }
       Does n s (joins seat) t = (get_elem? s.views seat ≡ some (Worker None)) × (t ≡ record { words = s.words; homes = s.homes; views = slice_set s.views seat Spent })
 

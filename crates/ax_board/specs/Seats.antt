@@ -8,9 +8,15 @@ use Rattle.ax_board.specs.declared.view.Note.TheVariants.{Closed, Home, Out}
 
 -- what the task notes
 abbrev pub notes_of : {J : Type 0} → View J → List (Note J)
-notes_of (Task notes) = notes
+notes_of (Task notes told) = notes
 notes_of (Worker held) = []
 notes_of Spent = []
+
+-- stop was told, as far as the task's view says
+abbrev pub told_of : {J : Type 0} → View J → Bool
+told_of (Task notes told) = told
+told_of (Worker held) = false
+told_of Spent = false
 
 abbrev pub one_if : Bool → ℕ
 one_if b = cond b 1 0
@@ -35,13 +41,13 @@ homes_in (x ∷ xs) = one_if (is_home x) + homes_in xs
 
 -- The task's seat holds the slots of the cells that are home, in this order
 pub record IsTask {W J : Type 0} (me : Me (Option W) (View J)) (order : List ℕ) (notes : List (Note J)) : Type 0 where
-  pub view : me.0 ≡ Task notes
+  pub view : me.0 ≡ Task notes (told_of me.0)
   pub slots : map (λ (x : ℕ × Option W). x.0) me.1 ≡ order
   pub once : (c : ℕ) → times c order ≡ one_if (at_home notes c)
   pub few : length order ≡ homes_in notes
 
 abbrev pub held_of : {J : Type 0} → View J → Option (ℕ × J)
-held_of (Task notes) = None
+held_of (Task notes told) = None
 held_of (Worker held) = held
 held_of Spent = None
 

@@ -1,6 +1,6 @@
 // The bells of a board, and how a seat waits on one.
 ghost use Rattle.std.specs.Prelude.{◌≡◌, ◌+◌, ◌%◌, ◌^◌, ◌<◌};
-ghost use Rattle.ax_board.specs.Trail.{Rang, bare};
+ghost use Rattle.ax_board.specs.Trail.{Looked, Rang, bare};
 
 use crate::board::Board;
 use crate::plays::{Look, Ring};
@@ -35,6 +35,7 @@ impl<W: Work> Board<W> {
         requires bell { (self.now.cells < bell) × (bell < self.now.cells + 3) }
         ensures board { seat.new.table_id ≡ seat.old.table_id }
         ensures same { bare seat.new.me ≡ bare seat.old.me }
+        ensures looked { Looked seat.old.me.0.1 seat.new.me.0.1 }
     {
         let cells = self.cells;
         let seen = self.table.shared.load::<Look<W>>(seat, bell);

@@ -20,12 +20,3 @@ pub struct Board<W: Work> {
     ghost few: { cells ≤ 64 },
     ghost key: { table.shared.key ≡ cells },
 }
-
-impl<W: Work> Board<W> {
-    /// The number of cells, from 1 to 64.
-    pub fn cells(&self) -> u16
-        ensures { result ≡ self.now.cells }
-    {
-        self.cells as u16
-    }
-}

@@ -1,14 +1,14 @@
 //! Laws of the board. Whatever the table is when a seat makes a step, the rule holds after it: a law for
 //! each of the ten kinds of step. Others speak of whole runs of such steps. They have no code; their
 //! clauses are what they say.
-ghost use Rattle.std.specs.Prelude.{◌≡◌, ◌≢◌, ℕ, ◌+◌, ◌%◌, ◌^◌, ◌<◌, ◌==◌, true, false, List, Option, [], ◌∷◌, Some, None, replicate, slice_index};
+ghost use Rattle.std.specs.Prelude.{◌≡◌, ◌≢◌, ℕ, ◌+◌, ◌%◌, ◌^◌, ◌<◌, ◌==◌, ◌++◌, Bool, true, false, List, Option, [], ◌∷◌, Some, None, replicate, slice_index};
 ghost use prog.Atomic.{either};
 ghost use mathlib.Core.Option.{none, some};
 ghost use lib.ListN.{get_elem?};
 ghost use Rattle.atomic_table.specs.Table.{State, Me, Allows, Splits, Joins, step};
 ghost use Rattle.ax_board.specs.Rule.{Ruled, Notes};
-ghost use Rattle.ax_board.specs.Runs.{Move, Runs, AllServed, start, opens, posts, claims, gives_back, collects, looks, stops, rings, splits, joins};
-ghost use Rattle.ax_board.specs.Plays.{opened, posted, claimed, given_back, collected, looked, heard};
+ghost use Rattle.ax_board.specs.Runs.{Move, Does, Runs, AllServed, start, opens, posts, claims, gives_back, collects, looks, stops, rings, splits, joins};
+ghost use Rattle.ax_board.specs.Plays.{opened, posted, claimed, given_back, collected, looked, stop_told};
 ghost use Rattle.ax_board.specs.declared.view.View.{View};
 ghost use Rattle.ax_board.specs.declared.view.View.TheVariants.{Task, Worker, Spent};
 ghost use Rattle.ax_board.specs.declared.view.Note.{Note};
@@ -28,6 +28,21 @@ pub fn stop_stays<W: Work>()
     ensures { (n : ℕ) (moves : List (Move W)) (begin end : State (Option W) (View W.Job)) → Runs W.job W.was_run W.has_result n begin moves end → slice_index begin.words n ≡ 1 → slice_index end.words n ≡ 1 }
 {}
 
+/// A stop sets the stop word, whatever the table is.
+pub fn a_stop_sets<W: Work>()
+    ensures { (n : ℕ) (begin end : State (Option W) (View W.Job)) → Ruled W.job W.was_run W.has_result n begin → Does W.job W.was_run W.has_result n begin stops end → slice_index end.words n ≡ 1 }
+{}
+
+/// A ring adds one to its bell, which wraps.
+pub fn a_ring_adds<W: Work>()
+    ensures { (n bell : ℕ) (begin end : State (Option W) (View W.Job)) → Ruled W.job W.was_run W.has_result n begin → Does W.job W.was_run W.has_result n begin (rings bell) end → slice_index end.words bell ≡ (slice_index begin.words bell + 1) % 2 ^ 64 }
+{}
+
+/// Over every run, between two collects of one cell stands a post to it: each work is collected once.
+pub fn a_post_between<W: Work>()
+    ensures { (n c : ℕ) (one two : W) (before between : List (Move W)) (end : State (Option W) (View W.Job)) → Runs W.job W.was_run W.has_result n (start n) (before ++ collects c one ∷ (between ++ collects c two ∷ [])) end → (work : W) × (sooner later : List (Move W)) × (between ≡ sooner ++ posts c work ∷ later) }
+{}
+
 /// Such runs exist: with one cell, a run makes a step of each kind, in which work that was posted comes
 /// back, once it was run.
 pub fn a_work_comes_back<W: Work>()
@@ -41,12 +56,12 @@ pub fn one_worker_holds<W: Work>()
 
 /// The task takes the slot of a closed cell, whose word stays.
 pub fn opens_keep<W: Work>()
-    ensures { (n slots id c : ℕ) (notes : List (Note W.Job)) (held : List (ℕ × Option W)) → c < n → get_elem? notes c ≡ some Closed → Allows (Ruled W.job W.was_run W.has_result n) slots id (Task notes, held) c (λ x. x) (opened (step slots c 0 0 none) (Task notes, held)) }
+    ensures { (n slots id c : ℕ) (notes : List (Note W.Job)) (told : Bool) (held : List (ℕ × Option W)) → c < n → get_elem? notes c ≡ some Closed → Allows (Ruled W.job W.was_run W.has_result n) slots id (Task notes told, held) c (λ x. x) (opened (step slots c 0 0 none) (Task notes told, held)) }
 {}
 
 /// The task posts work that was not run: 0 becomes 1.
 pub fn posts_keep<W: Work>()
-    ensures { (n slots id c : ℕ) (notes : List (Note W.Job)) (work : W) (held : List (ℕ × Option W)) → c < n → W.was_run work ≡ false → get_elem? notes c ≡ some Home → Allows (Ruled W.job W.was_run W.has_result n) slots id (Task notes, (c, Some work) ∷ held) c (λ x. 1) (λ r. posted W.job (step slots c 1 0 none) (Task notes, (c, Some work) ∷ held) 1) }
+    ensures { (n slots id c : ℕ) (notes : List (Note W.Job)) (told : Bool) (work : W) (held : List (ℕ × Option W)) → c < n → W.was_run work ≡ false → get_elem? notes c ≡ some Home → Allows (Ruled W.job W.was_run W.has_result n) slots id (Task notes told, (c, Some work) ∷ held) c (λ x. 1) (λ r. posted W.job (step slots c 1 0 none) (Task notes told, (c, Some work) ∷ held) 1) }
 {}
 
 /// A worker claims: 1 becomes 2, and another number stays.
@@ -61,7 +76,7 @@ pub fn gives_back_keep<W: Work>()
 
 /// The task collects: 3 becomes 0, and another number stays.
 pub fn collects_keep<W: Work>()
-    ensures { (n slots id c : ℕ) (notes : List (Note W.Job)) (held : List (ℕ × Option W)) → c < n → Allows (Ruled W.job W.was_run W.has_result n) slots id (Task notes, held) c (λ x. either (x == 3) 0 x) (collected W.job W.was_run W.has_result (step slots c 3 0 none) (Task notes, held)) }
+    ensures { (n slots id c : ℕ) (notes : List (Note W.Job)) (told : Bool) (held : List (ℕ × Option W)) → c < n → Allows (Ruled W.job W.was_run W.has_result n) slots id (Task notes told, held) c (λ x. either (x == 3) 0 x) (collected W.job W.was_run W.has_result (step slots c 3 0 none) (Task notes told, held)) }
 {}
 
 /// Any seat loads any word.
@@ -69,9 +84,9 @@ pub fn looks_keep<W: Work>()
     ensures { (n slots id i : ℕ) (me : Me (Option W) (View W.Job)) → Allows (Ruled W.job W.was_run W.has_result n) slots id me i (λ x. x) (looked (step slots i 0 0 none) me) }
 {}
 
-/// The stop word becomes 1.
+/// The task tells stop: the stop word becomes 1.
 pub fn stops_keep<W: Work>()
-    ensures { (n slots id : ℕ) (me : Me (Option W) (View W.Job)) → Allows (Ruled W.job W.was_run W.has_result n) slots id me n (λ x. 1) (λ r. looked (step slots n 1 0 none) me 1) }
+    ensures { (n slots id : ℕ) (notes : List (Note W.Job)) (told : Bool) (held : List (ℕ × Option W)) → Allows (Ruled W.job W.was_run W.has_result n) slots id (Task notes told, held) n (λ x. 1) (λ r. stop_told (step slots n 1 0 none) (Task notes told, held) 1) }
 {}
 
 /// Any seat rings a bell, which rises by one and wraps.

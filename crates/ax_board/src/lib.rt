@@ -33,5 +33,5 @@ mod work_side;
 pub use board::Board;
 pub use held::Held;
 pub use seats::{TaskSeat, WorkSeat};
-pub use view::{Note, View};
+pub use view::{Deed, Note, View};
 pub use work::Work;

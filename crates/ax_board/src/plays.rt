@@ -1,8 +1,8 @@
 // The rule of the board's table, and what each of its ten kinds of step tells its caller.
-ghost use Rattle.std.specs.Prelude.{ℕ, replicate, None, []};
+ghost use Rattle.std.specs.Prelude.{ℕ, false, replicate, None, []};
 ghost use Rattle.ax_board.specs.Rule.{Ruled};
 ghost use Rattle.ax_board.specs.Trail.{Bare, adds, finds, leaves};
-ghost use Rattle.ax_board.specs.Plays.{opened, posted, claimed, given_back, collected, looked, heard};
+ghost use Rattle.ax_board.specs.Plays.{opened, posted, claimed, given_back, collected, looked, heard, stop_told};
 ghost use Rattle.ax_board.specs.declared.view.View.TheVariants.{Task, Worker, Spent};
 ghost use Rattle.ax_board.specs.declared.view.Note.TheVariants.{Closed};
 
@@ -19,7 +19,7 @@ pub struct BoardRule<W> {
 impl<W: Work> TableRule<Option<W>, Known<W::Job>, usize> for BoardRule<W> {
     ghost holds = { λ n. Bare (Ruled W.job W.was_run W.has_result n) };
 
-    ghost first = { λ n. (Task (replicate n Closed), []) };
+    ghost first = { λ n. (Task (replicate n Closed) false, []) };
 }
 
 /// The task takes the slot of a cell.
@@ -78,11 +78,11 @@ impl<W: Work> Play<Option<W>, Known<W::Job>> for Ring<W> {
     ghost then = { adds looked };
 }
 
-/// The stop word becomes 1.
+/// The task tells stop: the stop word becomes 1.
 pub struct Stop<W>(PhantomData<W>);
 
 impl<W: Work> Play<Option<W>, Known<W::Job>> for Stop<W> {
-    ghost then = { leaves looked };
+    ghost then = { leaves stop_told };
 }
 
 /// The task's seat makes the seat of a worker.

@@ -3,8 +3,9 @@ ghost use Rattle.std.specs.Prelude.{◌≡◌, ℕ, ◌+◌, ◌<◌, ◌≤◌,
 ghost use lib.ListN.{get_elem?};
 ghost use mathlib.Core.Option.{some};
 ghost use Rattle.ax_board.specs.Seats.{at_home};
-ghost use Rattle.ax_board.specs.Trail.{Rang, Tried};
-ghost use Rattle.ax_board.specs.Words.{table, task_table, work_table, notes, holds, task_found, work_found};
+ghost use Rattle.ax_board.specs.Trail.{Rang, Tried, Looked};
+ghost use Rattle.ax_board.specs.Words.{table, cell_count, task_table, work_table, notes, told, holds, task_found, work_found};
+ghost use Rattle.ax_board.specs.declared.view.Deed.TheVariants.{Left};
 ghost use Rattle.ax_board.specs.declared.view.Note.TheVariants.{Closed, Home, Out};
 
 use crate::board::Board;
@@ -26,9 +27,10 @@ impl<W: Work> Board<W> {
     pub fn new(alloc: Global, cells: u16) -> Result<(Board<W>, TaskSeat<W>), NoMemory>
         requires some { 0 < cells }
         requires few { cells ≤ 64 }
-        ensures cells { IfOk result (λ r. r.0.cells ≡ cells) }
+        ensures cells { IfOk result (λ r. cell_count r.0 ≡ cells) }
         ensures board { IfOk result (λ r. task_table r.1 ≡ table r.0) }
         ensures notes { IfOk result (λ r. notes r.1 ≡ replicate cells Home) }
+        ensures told { IfOk result (λ r. told r.1 ≡ false) }
     {
         let (board, mut seat) = Board::closed(alloc, cells)?;
         for at in 0..board.cells {
@@ -40,7 +42,7 @@ impl<W: Work> Board<W> {
     // No cell is open.
     fn closed(alloc: Global, cells: u16) -> Result<(Board<W>, TaskSeat<W>), NoMemory>
         requires { (0 < cells) × (cells ≤ 64) }
-        ensures { IfOk result (λ r. (r.0.cells ≡ cells) × (task_table r.1 ≡ table r.0) × (notes r.1 ≡ replicate cells Closed)) }
+        ensures { IfOk result (λ r. (cell_count r.0 ≡ cells) × (task_table r.1 ≡ table r.0) × (notes r.1 ≡ replicate cells Closed) × (told r.1 ≡ false)) }
     {
         let count = usize::from(cells);
         let Ok(order) = VecDeque::with_capacity(alloc, count) else {
@@ -67,10 +69,11 @@ impl<W: Work> Board<W> {
     // The task takes the slot of a cell.
     fn open(&self, seat: &mut TaskSeat<W>, at: usize)
         requires board { task_table seat.old ≡ table self.now }
-        requires cell { at < self.now.cells }
+        requires cell { at < cell_count self.now }
         requires closed { get_elem? (notes seat.old) at ≡ some Closed }
         ensures board { task_table seat.new ≡ table self.now }
         ensures notes { notes seat.new ≡ slice_set (notes seat.old) at Home }
+        ensures told { told seat.new ≡ told seat.old }
     {
         let TaskSeat { seat, order, home } = seat;
         self.table.shared.load::<Open<W>>(seat, at);
@@ -81,7 +84,7 @@ impl<W: Work> Board<W> {
     /// The task has the slot of the cell: nothing is posted there that was not collected.
     pub fn is_home(&self, seat: &TaskSeat<W>, cell: u16) -> bool
         requires board { task_table seat.now ≡ table self.now }
-        requires cell { cell < self.now.cells }
+        requires cell { cell < cell_count self.now }
         ensures { result ≡ at_home (notes seat.now) cell }
     {
         seat.home[usize::from(cell)]
@@ -90,24 +93,26 @@ impl<W: Work> Board<W> {
     /// Puts work out at a cell, and then rings the work bell. Conditions: `is_home`, and the work was not run.
     pub fn post(&self, seat: &mut TaskSeat<W>, cell: u16, work: W)
         requires board { task_table seat.old ≡ table self.now }
-        requires cell { cell < self.now.cells }
+        requires cell { cell < cell_count self.now }
         requires home { at_home (notes seat.old) cell ≡ true }
         requires fresh { W.was_run work ≡ false }
         ensures board { task_table seat.new ≡ table self.now }
         ensures notes { notes seat.new ≡ slice_set (notes seat.old) cell (Out (W.job work)) }
-        ensures rang { Rang (self.now.cells + 1) ((cell, 1) ∷ task_found seat.old) (task_found seat.new) }
+        ensures told { told seat.new ≡ told seat.old }
+        ensures rang { Rang (cell_count self.now + 1) (Left cell 1 ∷ task_found seat.old) (task_found seat.new) }
     {
         self.post_at(seat, usize::from(cell), work);
     }
 
     fn post_at(&self, seat: &mut TaskSeat<W>, at: usize, work: W)
         requires board { task_table seat.old ≡ table self.now }
-        requires cell { at < self.now.cells }
+        requires cell { at < cell_count self.now }
         requires home { at_home (notes seat.old) at ≡ true }
         requires fresh { W.was_run work ≡ false }
         ensures board { task_table seat.new ≡ table self.now }
         ensures notes { notes seat.new ≡ slice_set (notes seat.old) at (Out (W.job work)) }
-        ensures rang { Rang (self.now.cells + 1) ((at, 1) ∷ task_found seat.old) (task_found seat.new) }
+        ensures told { told seat.new ≡ told seat.old }
+        ensures rang { Rang (cell_count self.now + 1) (Left at 1 ∷ task_found seat.old) (task_found seat.new) }
     {
         seat.bring(at);
         let TaskSeat { seat, order, home } = seat;
@@ -123,12 +128,13 @@ impl<W: Work> Board<W> {
     /// call's exchange found the cell's word not at 3.
     pub fn collect(&self, seat: &mut TaskSeat<W>, cell: u16) -> Option<W>
         requires board { task_table seat.old ≡ table self.now }
-        requires cell { cell < self.now.cells }
+        requires cell { cell < cell_count self.now }
         requires out { at_home (notes seat.old) cell ≡ false }
         ensures board { task_table seat.new ≡ table self.now }
         ensures found { Tried cell 3 (IsSome result) (task_found seat.old) (task_found seat.new) }
         ensures none { IfNone result (notes seat.new ≡ notes seat.old) }
         ensures some { IfSome result (λ _. notes seat.new ≡ slice_set (notes seat.old) cell Home) }
+        ensures told { told seat.new ≡ told seat.old }
         ensures job { IfSome result (λ w. get_elem? (notes seat.old) cell ≡ some (Out (W.job w))) }
         ensures ran { IfSome result (λ w. W.was_run w ≡ true) }
         ensures result { IfSome result (λ w. W.has_result w) }
@@ -138,12 +144,13 @@ impl<W: Work> Board<W> {
 
     fn collect_at(&self, seat: &mut TaskSeat<W>, at: usize) -> Option<W>
         requires board { task_table seat.old ≡ table self.now }
-        requires cell { at < self.now.cells }
+        requires cell { at < cell_count self.now }
         requires out { at_home (notes seat.old) at ≡ false }
         ensures board { task_table seat.new ≡ table self.now }
         ensures found { Tried at 3 (IsSome result) (task_found seat.old) (task_found seat.new) }
         ensures none { IfNone result (notes seat.new ≡ notes seat.old) }
         ensures some { IfSome result (λ _. notes seat.new ≡ slice_set (notes seat.old) at Home) }
+        ensures told { told seat.new ≡ told seat.old }
         ensures job { IfSome result (λ w. get_elem? (notes seat.old) at ≡ some (Out (W.job w))) }
         ensures ran { IfSome result (λ w. W.was_run w ≡ true) }
         ensures result { IfSome result (λ w. W.has_result w) }
@@ -166,6 +173,7 @@ impl<W: Work> Board<W> {
         requires board { task_table seat.old ≡ table self.now }
         ensures board { task_table seat.new ≡ table self.now }
         ensures notes { notes seat.new ≡ notes seat.old }
+        ensures told { told seat.new ≡ told seat.old }
         ensures found { task_found seat.new ≡ task_found seat.old }
         ensures worker { work_table result ≡ table self.now }
         ensures empty { holds result ≡ None }
@@ -187,6 +195,7 @@ impl<W: Work> Board<W> {
         requires empty { holds other ≡ None }
         ensures board { task_table seat.new ≡ table self.now }
         ensures notes { notes seat.new ≡ notes seat.old }
+        ensures told { told seat.new ≡ told seat.old }
         ensures found { task_found seat.new ≡ task_found seat.old }
     {
         let TaskSeat { seat, .. } = seat;
@@ -199,7 +208,8 @@ impl<W: Work> Board<W> {
         requires board { task_table seat.old ≡ table self.now }
         ensures board { task_table seat.new ≡ table self.now }
         ensures notes { notes seat.new ≡ notes seat.old }
-        ensures rang { Rang (self.now.cells + 1) ((self.now.cells, 1) ∷ task_found seat.old) (task_found seat.new) }
+        ensures told { told seat.new ≡ true }
+        ensures rang { Rang (cell_count self.now + 1) (Left (cell_count self.now) 1 ∷ task_found seat.old) (task_found seat.new) }
     {
         let TaskSeat { seat, .. } = seat;
         self.table.shared.store::<Stop<W>>(seat, self.cells, 1);
@@ -215,6 +225,8 @@ impl<W: Work> Board<W> {
         requires board { task_table seat.old ≡ table self.now }
         ensures board { task_table seat.new ≡ table self.now }
         ensures notes { notes seat.new ≡ notes seat.old }
+        ensures told { told seat.new ≡ told seat.old }
+        ensures looked { Looked (task_found seat.old) (task_found seat.new) }
     {
         let TaskSeat { seat, .. } = seat;
         self.wait_on(rt, seat, self.cells + 2, 3, false);

@@ -1,8 +1,9 @@
 // The calls of a worker.
 ghost use Rattle.std.specs.Prelude.{◌≡◌, ℕ, ◌+◌, ◌<◌, true, false, IfSome, IfNone, IsSome, IsTrue, ◌↔◌, ◌∷◌, Some, None};
 ghost use Rattle.ax_board.specs.Seats.{one_if};
-ghost use Rattle.ax_board.specs.Trail.{Rang, Tried};
-ghost use Rattle.ax_board.specs.Words.{table, work_table, holds, work_found};
+ghost use Rattle.ax_board.specs.Trail.{Rang, Tried, Looked};
+ghost use Rattle.ax_board.specs.declared.view.Deed.TheVariants.{Found, Left};
+ghost use Rattle.ax_board.specs.Words.{table, cell_count, work_of, cell_of, is_run, work_table, holds, work_found};
 
 use crate::board::Board;
 use crate::held::Held;
@@ -20,20 +21,63 @@ impl<W: Work> WorkSeat<W> {
     }
 }
 
+impl<W: Work> Held<W> {
+    /// The cell to which the work was posted.
+    pub fn cell(&self) -> u16
+        ensures { result ≡ cell_of self.now }
+    {
+        self.cell
+    }
+
+    /// The work.
+    pub fn work(&self) -> &W
+        ensures { result.now ≡ work_of self.entry.now }
+    {
+        &self.work
+    }
+
+    /// The work was run.
+    pub fn is_run(&self) -> bool
+        ensures held { result ≡ is_run self.now }
+        ensures work { result ≡ W.was_run (work_of self.now) }
+    {
+        self.is_run
+    }
+
+    /// Runs the work. Condition: not `is_run()`. It takes the memory that the work's own `run` takes.
+    pub fn run(&mut self)
+        requires { is_run self.old ≡ false }
+        ensures ran { is_run self.new ≡ true }
+        ensures cell { cell_of self.new ≡ cell_of self.old }
+        ensures job { W.job (work_of self.new) ≡ W.job (work_of self.old) }
+        ensures result { W.has_result (work_of self.new) }
+    {
+        self.work.run();
+        self.is_run = true;
+    }
+}
+
 impl<W: Work> Board<W> {
+    /// The number of cells, from 1 to 64.
+    pub fn cells(&self) -> u16
+        ensures { result ≡ cell_count self.now }
+    {
+        self.cells as u16
+    }
+
     /// Claims the work that is posted at a cell. Condition: the seat is empty. `None` exactly where this
     /// call's exchange found the cell's word not at 1. That no other worker holds the work is the law
     /// `one_worker_holds`.
     pub fn claim(&self, seat: &mut WorkSeat<W>, cell: u16) -> Option<Held<W>>
         requires board { work_table seat.old ≡ table self.now }
-        requires cell { cell < self.now.cells }
+        requires cell { cell < cell_count self.now }
         requires empty { holds seat.old ≡ None }
         ensures board { work_table seat.new ≡ table self.now }
         ensures found { Tried cell 1 (IsSome result) (work_found seat.old) (work_found seat.new) }
         ensures none { IfNone result (holds seat.new ≡ None) }
-        ensures some { IfSome result (λ h. holds seat.new ≡ Some (cell, W.job h.work)) }
-        ensures cell { IfSome result (λ h. h.cell ≡ cell) }
-        ensures fresh { IfSome result (λ h. h.is_run ≡ false) }
+        ensures some { IfSome result (λ h. holds seat.new ≡ Some (cell, W.job (work_of h))) }
+        ensures cell { IfSome result (λ h. cell_of h ≡ cell) }
+        ensures fresh { IfSome result (λ h. is_run h ≡ false) }
     {
         let work = self.claim_at(seat, usize::from(cell))?;
         let is_run = false;
@@ -42,7 +86,7 @@ impl<W: Work> Board<W> {
 
     fn claim_at(&self, seat: &mut WorkSeat<W>, at: usize) -> Option<W>
         requires board { work_table seat.old ≡ table self.now }
-        requires cell { at < self.now.cells }
+        requires cell { at < cell_count self.now }
         requires empty { holds seat.old ≡ None }
         ensures board { work_table seat.new ≡ table self.now }
         ensures found { Tried at 1 (IsSome result) (work_found seat.old) (work_found seat.new) }
@@ -66,12 +110,12 @@ impl<W: Work> Board<W> {
     /// that claimed it. Then the seat is empty.
     pub fn give_back(&self, seat: &mut WorkSeat<W>, held: Held<W>)
         requires board { work_table seat.old ≡ table self.now }
-        requires cell { held.cell < self.now.cells }
-        requires ran { held.is_run ≡ true }
-        requires same { holds seat.old ≡ Some (held.cell, W.job held.work) }
+        requires cell { cell_of held < cell_count self.now }
+        requires ran { is_run held ≡ true }
+        requires same { holds seat.old ≡ Some (cell_of held, W.job (work_of held)) }
         ensures board { work_table seat.new ≡ table self.now }
         ensures empty { holds seat.new ≡ None }
-        ensures rang { Rang (self.now.cells + 2) ((held.cell, 3) ∷ work_found seat.old) (work_found seat.new) }
+        ensures rang { Rang (cell_count self.now + 2) (Left (cell_of held) 3 ∷ work_found seat.old) (work_found seat.new) }
     {
         let Held {
             work,
@@ -84,12 +128,12 @@ impl<W: Work> Board<W> {
 
     fn give_at(&self, seat: &mut WorkSeat<W>, at: usize, work: W)
         requires board { work_table seat.old ≡ table self.now }
-        requires cell { at < self.now.cells }
+        requires cell { at < cell_count self.now }
         requires ran { W.was_run work ≡ true }
         requires same { holds seat.old ≡ Some (at, W.job work) }
         ensures board { work_table seat.new ≡ table self.now }
         ensures empty { holds seat.new ≡ None }
-        ensures found { work_found seat.new ≡ (at, 3) ∷ work_found seat.old }
+        ensures found { work_found seat.new ≡ Left at 3 ∷ work_found seat.old }
     {
         let WorkSeat { seat, empty } = seat;
         drop(self.table.shared.exchange(seat, at, Some(work)));
@@ -103,7 +147,7 @@ impl<W: Work> Board<W> {
         requires board { work_table seat.old ≡ table self.now }
         ensures board { work_table seat.new ≡ table self.now }
         ensures same { holds seat.new ≡ holds seat.old }
-        ensures found { work_found seat.new ≡ (self.now.cells, one_if result) ∷ work_found seat.old }
+        ensures found { work_found seat.new ≡ Found (cell_count self.now) (one_if result) ∷ work_found seat.old }
     {
         let WorkSeat { seat, .. } = seat;
         self.table.shared.load::<Hear<W>>(seat, self.cells) == 1
@@ -115,6 +159,7 @@ impl<W: Work> Board<W> {
         requires board { work_table seat.old ≡ table self.now }
         ensures board { work_table seat.new ≡ table self.now }
         ensures same { holds seat.new ≡ holds seat.old }
+        ensures looked { Looked (work_found seat.old) (work_found seat.new) }
     {
         let WorkSeat { seat, .. } = seat;
         self.wait_on(rt, seat, self.cells + 1, 1, true);

@@ -1,12 +1,13 @@
-use Rattle.std.proofs.Common.{rules, ◌≡◌, ℕ, ◌+◌, ◌%◌, ◌^◌, ◌<◌, ◌≤◌, ◌∷◌, ap, sym, ◌∙◌, subst, arith, length, map, set, false, true, Some, None}
+use Rattle.std.proofs.Common.{rules, ◌≡◌, ℕ, ◌+◌, ◌<◌, ◌≤◌, ◌∷◌, ap, sym, ◌∙◌, subst, arith, length, map, set, false, true, Some, None}
 use mathlib.Core.Option.{some}
 use lib.ListN.{get_elem?}
 use Rattle.atomic_table.specs.Table.{rest}
 use Rattle.ax_board.specs.Seats.{is_home, at_home}
 use Rattle.ax_board.specs.Trail.{bare}
-use Rattle.ax_board.specs.Seats.{notes_of}
+use Rattle.ax_board.specs.Seats.{notes_of, told_of}
 use Rattle.ax_board.proofs.Beside.{posts}
 use Rattle.ax_board.proofs.Tasks.{in_front, posted_task, refilled, flags_now, length_now, home_note}
+use Rattle.ax_board.specs.declared.view.Deed.TheVariants.{Left, Added}
 use Rattle.ax_board.specs.declared.view.Note.TheVariants.{Home, Out}
 use Rattle.ax_board.proofs.board.Board.post_at.Goals as goal
 
@@ -59,6 +60,14 @@ invariant_of-seat-clause-room g c = let s = c.bring.new.self in
     let same : length (notes_of c.ring.new.seat.me.0.0) ≡ length (notes_of s.seat.me.0.0) = length_now m (bare c.ring.new.seat.me) c.args.at (Out (g.W.Work.job c.args.work)) _ now ∙ ap (λ k. length (notes_of k.0)) is in
     subst (λ (n : ℕ). n ≤ c.pop_front.new.self.cap) (sym same) (subst (λ (n : ℕ). length (notes_of s.seat.me.0.0) ≤ n) (sym c.pop_front.ensures.capacity) s.room)
 
+pub returns-clause-told : goal.returns-clause-told
+returns-clause-told g c =
+    let m = bare c.exchange.new.seat.me in
+    let is = ap bare c.exchange.ensures.3 in
+    let first : m.1 ≡ (c.args.at, Some c.args.work) ∷ rest m.1 = ap (λ k. k.1) is ∙ ap (λ t. (c.args.at, Some c.args.work) ∷ t) (sym (ap (λ k. rest k.1) is)) in
+    let now = c.ring.ensures.same ∙ c.store.ensures.2.0 c.args.work first in
+    ap (λ k. told_of k.0) now ∙ (ap (λ k. told_of k.0) is ∙ ap told_of c.bring.ensures.seat.1)
+
 pub returns-clause-rang : goal.returns-clause-rang
 returns-clause-rang g c = let r = c.ring.ensures.rang in
-    (r.0, r.1 ∙ ap (λ t. (c.args.self.now.cells + 1, (r.0 + 1) % 2 ^ 64) ∷ (c.args.self.now.cells + 1, r.0) ∷ t) (c.store.ensures.2.1 ∙ ap (λ t. (c.args.at, 1) ∷ t) (ap (λ k. k.0.1) c.exchange.ensures.3 ∙ c.bring.ensures.found)))
+    (r.0, r.1 ∙ ap (λ t. Added (c.args.self.now.cells + 1) r.0 1 ∷ t) (c.store.ensures.2.1 ∙ ap (λ t. Left c.args.at 1 ∷ t) (ap (λ k. k.0.1) c.exchange.ensures.3 ∙ c.bring.ensures.found)))
