@@ -95,7 +95,7 @@ fn text_of(alloc: Global, answer: Option<Answer>) -> Result<String, AllocError> 
     }
 }
 
-// The answer, or none where the request does not fit.
+// The answer, or none where what is asked does not fit.
 fn answer(decls: &Decls, cells: &mut KeyCells, r: &Request) -> Result<Option<Answer>, NoMemory>
     requires { cell_kinds cells.old ≡ kinds decls.now }
     ensures { cell_kinds cells.new ≡ cell_kinds cells.old }
@@ -116,7 +116,10 @@ fn answer_to(alloc: Global, decls: &Decls, cells: &mut KeyCells, line: &str) -> 
 {
     let (name, rest) = line.split_once(' ').unwrap_or((line, ""));
     let numbers = numbers_of(alloc, rest)?;
-    let state = numbers.first().map_or(255, |n| *n as u8);
+    let state = match numbers.first() {
+        Some(number) => u8::try_from(*number).unwrap_or(255),
+        None => 255,
+    };
     let request = request_of(alloc, name, state, numbers.get(1..).unwrap_or(&[]))?;
     let answer = answer(decls, cells, &request)?;
     Ok(text_of(alloc, answer)?)
