@@ -1,0 +1,15 @@
+pub mod Counts
+pub mod Wakeful
+pub mod Alone
+pub mod Falls
+pub mod Handles
+pub mod Kept
+pub mod KeySums
+pub mod Lawfully
+pub mod Orderly
+pub mod Owed
+pub mod RunTests
+pub mod Handlers
+pub mod Stuck
+pub mod Upto
+pub mod Work

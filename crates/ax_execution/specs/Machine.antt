@@ -1,0 +1,259 @@
+-- The machine of seven events.
+use Rattle.std.specs.Prelude.{◌≡◌, ℕ, suc, ◌+◌, ◌<◌, ℤ, int_lt, List, [], ◌∷◌, ◌++◌, length, drop, Bool, true, false, if◌then◌else◌, Option, Some, None}
+use Rattle.std.specs.Str.{bytes_eq}
+use Rattle.std.specs.BTreeSet.{insert_key}
+use Rattle.ax_keys.specs.Keys.{key_cmp}
+use Rattle.ax_text.specs.declared.vocabulary.Request.{Request}
+use Rattle.ax_text.specs.declared.vocabulary.Answer.{Answer}
+use Rattle.ax_text.specs.Programs.{Program}
+use Rattle.ax_machine.specs.Entries.{Key, Entry, Watermark, Block, says}
+use Rattle.ax_machine.specs.Entries as entry
+use Rattle.ax_machine.specs.Events.{Event}
+use Rattle.ax_machine.specs.Events as event
+use Rattle.ax_machine.specs.Firings.{most_firings}
+use Rattle.ax_execution.specs.Sums.{total}
+use Rattle.ax_machine.specs.Blocks.{block_text}
+use Rattle.ax_machine.specs.Sync.{first_wm, parts_of}
+use Rattle.ax_text.specs.Controls.{request_at}
+use Rattle.ax_execution.specs.Groups.{row_facts}
+use Rattle.ax_machine.specs.KeySync.{untold}
+use Rattle.ax_execution.specs.Contexts.{Stage, Unbegun, Begun, Context, Waiting, Row, Mark, Part, part_lines, contexts_in, is_idle}
+use Rattle.ax_execution.specs.Rest.{part_work}
+use Rattle.ax_execution.specs.Turns.{admit, mark, fire, start, serve, deliver}
+
+-- what closed an epoch
+pub data Closing : Type 0 where
+  ByWatermark : (time : ℤ) → Closing
+  ByBarrier : (id : ℤ) → Closing
+
+-- a closed epoch whose marker isn't sent
+pub record Closed : Type 0 where
+  pub epoch : ℕ
+  pub closing : Closing
+
+pub record Machine : Type 0 where
+  pub wm : ℤ
+  -- the number of the current epoch
+  pub epoch : ℕ
+  -- the keys of the rows so far, rising by their bytes, each once
+  pub keys : List Key
+  pub parts : Key → Part
+  -- the key that must fire next
+  pub must : Option Key
+  -- the oldest first
+  pub unsent : List Closed
+  pub written : List Entry
+
+-- an event; a context is named by the key that it owns
+pub data Happening : Type 0 where
+  Admit : (number : ℕ) → (key : Key) → (time : ℤ) → (values : List ℤ) → Happening
+  Close : (closing : Closing) → Happening
+  Fire : (number : ℕ) → (key : Key) → Happening
+  Start : (key : Key) → Happening
+  Serve : (key : Key) → (slot : ℕ) → Happening
+  Deliver : (key : Key) → (slot : ℕ) → Happening
+  Send : Happening
+
+-- the options that the machine knows: the mode, and how many contexts may be in flight
+pub record Rules : Type 0 where
+  pub serial : Bool
+  pub limit : ℕ
+
+abbrev pub part_at : (Key → Part) → Key → Part → Key → Part
+part_at parts k part q = if bytes_eq k q then part else parts q
+
+-- a key that has no owner while something waits must fire next
+abbrev pub must_fire : Key → Part → Option Key
+must_fire k part = if is_idle part then Some k else None
+
+-- a key goes on, and its new lines are written
+abbrev pub goes_on : Key → Option Key → Part → Machine → Machine
+goes_on k must part m = record {
+  wm = m.wm;
+  epoch = m.epoch;
+  keys = m.keys;
+  unsent = m.unsent;
+  parts = part_at m.parts k part;
+  must = must;
+  written = m.written ++ says k (drop (length (part_lines (m.parts k))) (part_lines part));
+}
+
+-- a callback of a key's owner ends
+abbrev pub calls_back : Key → Part → Machine → Machine
+calls_back k part m = goes_on k (must_fire k part) part m
+
+abbrev pub marker_of : ℕ → Program → Closing → Machine → entry.Marker
+marker_of g p (ByWatermark time) m = Watermark time
+marker_of g p (ByBarrier id) m = Block (block_text g p.states id m.wm (parts_of m.keys (λ k. (m.parts k).said.state)))
+
+abbrev pub send_first : ℕ → Program → List Closed → Machine → Machine
+send_first g p [] m = m
+send_first g p (c ∷ cs) m = record { wm = m.wm; epoch = m.epoch; keys = m.keys; parts = m.parts; must = m.must; unsent = cs; written = m.written ++ entry.Mark (marker_of g p c.closing m) ∷ [] }
+
+abbrev pub close : Closing → (Key → Part) → ℤ → Machine → Machine
+close c parts wm m = record {
+  wm = wm;
+  epoch = suc m.epoch;
+  keys = m.keys;
+  parts = parts;
+  must = m.must;
+  unsent = m.unsent ++ record { epoch = m.epoch; closing = c } ∷ [];
+  written = m.written;
+}
+
+-- where there are g key groups
+abbrev pub happens : ℕ → Program → Happening → Machine → Machine
+happens g p (Admit n k time values) m = record {
+  wm = m.wm;
+  epoch = m.epoch;
+  must = m.must;
+  unsent = m.unsent;
+  written = m.written;
+  keys = insert_key key_cmp m.keys k;
+  parts = part_at m.parts k (admit n m.epoch (row_facts m.wm time values) (m.parts k));
+}
+happens g p (Close (ByWatermark w)) m = close (ByWatermark w) (λ k. mark m.epoch w most_firings (m.parts k)) w m
+happens g p (Close (ByBarrier id)) m = close (ByBarrier id) m.parts m.wm m
+happens g p (Fire n k) m = goes_on k None (fire n (m.parts k)) m
+happens g p (Start k) m = calls_back k (start p (m.parts k)) m
+happens g p (Serve k slot) m = goes_on k m.must (serve slot (m.parts k)) m
+happens g p (Deliver k slot) m = calls_back k (deliver slot (m.parts k)) m
+happens g p Send m = send_first g p m.unsent m
+
+-- which events are allowed
+
+abbrev pub IsWatermark : Closing → Type 0
+IsWatermark (ByWatermark time) = Unit {0}
+IsWatermark (ByBarrier id) = ⊥
+
+abbrev pub NoBarrier : List Closed → Type 0
+NoBarrier [] = Unit {0}
+NoBarrier (c ∷ cs) = IsWatermark c.closing × NoBarrier cs
+
+-- no barrier is unsent, and in serial mode no marker
+abbrev pub IsOpen : Rules → Machine → Type 0
+IsOpen r m = NoBarrier m.unsent × (r.serial ≡ true → m.unsent ≡ [])
+
+-- the contexts that were made and not given up, waiting rows among them
+abbrev pub in_flight : Machine → ℕ
+in_flight m = total m.keys (λ k. contexts_in (m.parts k))
+
+abbrev pub NoneIsIdle : Machine → Type 0
+NoneIsIdle m = (k : Key) → is_idle (m.parts k) ≡ false
+
+-- nothing of an epoch up to e is left
+abbrev pub OwnedLater : ℕ → Option Context → Type 0
+OwnedLater e None = Unit {0}
+OwnedLater e (Some c) = e < c.epoch
+
+abbrev pub WaitLater : ℕ → List Waiting → Type 0
+WaitLater e [] = Unit {0}
+WaitLater e (Row n f facts ∷ is) = (e < f) × WaitLater e is
+WaitLater e (Mark f w more ∷ is) = (e < f) × WaitLater e is
+
+abbrev pub IsFinished : ℕ → Machine → Type 0
+IsFinished e m = (k : Key) → OwnedLater e (m.parts k).owner × WaitLater e (m.parts k).waiting
+
+abbrev pub FirstIsFinished : List Closed → Machine → Type 0
+FirstIsFinished [] m = ⊥
+FirstIsFinished (c ∷ cs) m = IsFinished c.epoch m
+
+abbrev pub NumbersOwner : ℕ → Option Context → Type 0
+NumbersOwner n None = ⊥
+NumbersOwner n (Some c) = c.number ≡ n
+
+-- no context in flight has this number
+abbrev pub NotIn : ℕ → List Waiting → Type 0
+NotIn n [] = Unit {0}
+NotIn n (Row i e f ∷ is) = (i ≡ n → ⊥) × NotIn n is
+NotIn n (Mark e w more ∷ is) = NotIn n is
+
+abbrev pub IsNew : ℕ → Machine → Type 0
+IsNew n m = (k : Key) → (NumbersOwner n (m.parts k).owner → ⊥) × NotIn n (m.parts k).waiting
+
+abbrev pub StageUnbegun : Stage → Type 0
+StageUnbegun Unbegun = Unit {0}
+StageUnbegun (Begun r) = ⊥
+
+-- the request of a slot that wasn't served, and one that was
+abbrev pub StageAsks : ℕ → Stage → Type 0
+StageAsks slot Unbegun = ⊥
+StageAsks slot (Begun r) = ((q : Request) × (request_at r.control slot ≡ Some q)) × (r.answers slot ≡ None)
+
+abbrev pub StageHas : ℕ → Stage → Type 0
+StageHas slot Unbegun = ⊥
+StageHas slot (Begun r) = (a : Answer) × (r.answers slot ≡ Some a)
+
+abbrev pub OfOwner : (Stage → Type 0) → Option Context → Type 0
+OfOwner P None = ⊥
+OfOwner P (Some c) = P c.stage
+
+abbrev pub MayFireNow : Key → Option Key → Type 0
+MayFireNow k None = Unit {0}
+MayFireNow k (Some j) = j ≡ k
+
+abbrev pub Allowed : Rules → Happening → Machine → Type 0
+Allowed r (Admit n k time values) m = (m.must ≡ None) × IsOpen r m × (in_flight m < r.limit) × NoneIsIdle m × IsNew n m
+Allowed r (Close (ByWatermark w)) m = (m.must ≡ None) × IsOpen r m × (int_lt m.wm w ≡ true)
+Allowed r (Close (ByBarrier id)) m = (m.must ≡ None) × IsOpen r m
+Allowed r (Fire n k) m = MayFireNow k m.must × (is_idle (m.parts k) ≡ true) × (in_flight m < r.limit) × IsNew n m
+Allowed r (Start k) m = (m.must ≡ None) × OfOwner StageUnbegun (m.parts k).owner
+Allowed r (Serve k slot) m = (m.must ≡ None) × OfOwner (StageAsks slot) (m.parts k).owner
+Allowed r (Deliver k slot) m = (m.must ≡ None) × OfOwner (StageHas slot) (m.parts k).owner
+Allowed r Send m = (m.must ≡ None) × FirstIsFinished m.unsent m
+
+-- events, each allowed at its place
+abbrev pub IsRun : Rules → ℕ → Program → List Happening → Machine → Type 0
+IsRun r g p [] m = Unit {0}
+IsRun r g p (e ∷ es) m = Allowed r e m × IsRun r g p es (happens g p e m)
+
+abbrev pub after_all : ℕ → Program → List Happening → Machine → Machine
+after_all g p [] m = m
+after_all g p (e ∷ es) m = after_all g p es (happens g p e m)
+
+-- the events of the input that were taken
+abbrev pub taken : List Happening → List Event
+taken [] = []
+taken (Admit n k time values ∷ es) = event.Row k time values ∷ taken es
+taken (Close (ByWatermark w) ∷ es) = event.Mark w ∷ taken es
+taken (Close (ByBarrier id) ∷ es) = event.Barrier id ∷ taken es
+taken (Fire n k ∷ es) = taken es
+taken (Start k ∷ es) = taken es
+taken (Serve k slot ∷ es) = taken es
+taken (Deliver k slot ∷ es) = taken es
+taken (Send ∷ es) = taken es
+
+abbrev pub machine_start : Program → Machine
+machine_start p = record {
+  wm = first_wm;
+  epoch = 0;
+  keys = [];
+  must = None;
+  unsent = [];
+  written = [];
+  parts = λ k. record { owner = None; waiting = []; said = untold p };
+}
+
+-- the machine behind these events
+abbrev pub machine_of : ℕ → Program → List Happening → Machine
+machine_of g p es = after_all g p es (machine_start p)
+
+-- the work left: that of each key, and one for each marker to be sent
+abbrev pub work : Program → Machine → ℕ
+work p m = total m.keys (λ k. part_work p (m.parts k)) + length m.unsent
+
+-- nothing is in flight, every key is free, and every marker is sent
+pub record IsAtRest (m : Machine) : Type 0 where
+  pub owners : (k : Key) → (m.parts k).owner ≡ None
+  pub waiting : (k : Key) → (m.parts k).waiting ≡ []
+  pub unsent : m.unsent ≡ []
+
+-- the events that take nothing of the input
+abbrev pub IsWork : Happening → Type 0
+IsWork (Admit n k time values) = ⊥
+IsWork (Close c) = ⊥
+IsWork (Fire n k) = Unit {0}
+IsWork (Start k) = Unit {0}
+IsWork (Serve k slot) = Unit {0}
+IsWork (Deliver k slot) = Unit {0}
+IsWork Send = Unit {0}

@@ -1,0 +1,7 @@
+//! The asynchronous machine of seven events, and its laws, in serial and in parallel mode. No program uses it yet.
+//!
+//! The definitions stand in `specs/`. The functions of `laws` and `rows` do nothing; their contracts are laws over the definitions.
+#![tactic(auto)]
+
+pub mod laws;
+pub mod rows;
