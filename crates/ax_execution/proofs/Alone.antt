@@ -11,18 +11,19 @@ use Rattle.ax_machine.specs.Entries.{Key, Watermark, lines_of, says}
 use Rattle.ax_machine.specs.Events.{Event}
 use Rattle.ax_machine.specs.Events as event
 use Rattle.ax_machine.specs.Firings.{most_firings}
-use Rattle.ax_machine.specs.Sync.{Plain, all_fired, at_watermark, writes, plain_step, plain_start, first_wm, sync}
+use Rattle.ax_machine.specs.Sync.{Plain, all_fired, at_watermark, writes, plain_step}
 use Rattle.ax_machine.proofs.FiringLemmas.{key_is}
 use Rattle.ax_machine.proofs.FrontLemmas.{lines_of-append}
 use Rattle.ax_machine.proofs.KeyLemmas.{lines_of_says, lines_of_others, lines_of_marked, IsSameBeside, fire_all_beside}
 use Rattle.ax_machine.proofs.StepLemmas.{steps_append}
 use Rattle.ax_execution.specs.Groups.{on_row, row_facts}
-use Rattle.ax_machine.specs.KeySync.{Said, ran, key_fires, KeyPlain, key_step, key_steps, key_sync, untold}
+use Rattle.ax_machine.specs.KeySync.{Said, ran, key_fires, KeyPlain, key_step, key_steps}
 use Rattle.ax_execution.specs.Contexts.{Running, Part, part_lines}
 use Rattle.ax_execution.specs.Rest.{settled, owed}
 use Rattle.ax_execution.specs.Turns.{admit, mark, fire, start, serve, deliver}
-use Rattle.ax_execution.specs.Machine.{ByWatermark, ByBarrier, Closed, Machine, Happening, Admit, Close, Fire, Start, Serve, Deliver, Send, Rules, part_at, must_fire, goes_on, marker_of, send_first, happens, Allowed, IsRun, after_all, taken, machine_start, machine_of, IsWork}
-use Rattle.ax_machine.proofs.KeyLemmas.{is_projected}
+use Rattle.ax_execution.specs.Machine.{ByWatermark, ByBarrier, Closed, Machine, Happening, Admit, Close, Fire, Start, Serve, Deliver, Send, Rules, part_at, must_fire, goes_on, marker_of, send_first, happens, Allowed, IsRun, after_all, taken, machine_from, machine_of, IsWork}
+use Rattle.ax_execution.specs.Origins.{Origin, IsOrigin, plain_from, sync_from, said_from, key_sync_from}
+use Rattle.ax_execution.proofs.Projected.{projected_from}
 use Rattle.ax_execution.proofs.Handles.{Handles}
 use Rattle.ax_execution.proofs.Kept.{admitted, marked}
 use Rattle.ax_execution.proofs.Owed.{written_and_owed}
@@ -34,11 +35,11 @@ key_append : (p : Program) (k : Key) (xs ys : List Event) (s : KeyPlain) → key
 key_append p k [] ys s = refl
 key_append p k (e ∷ xs) ys s = key_append p k xs ys (key_step p k e s)
 
-pub key_next : (p : Program) (k : Key) (done : List Event) (e : Event) → key_sync p k (done ++ e ∷ []) ≡ key_step p k e (key_sync p k done)
-key_next p k done e = key_append p k done (e ∷ []) (record { wm = first_wm; said = untold p })
+pub key_next : (p : Program) (from : Origin) (k : Key) (done : List Event) (e : Event) → key_sync_from p from k (done ++ e ∷ []) ≡ key_step p k e (key_sync_from p from k done)
+key_next p from k done e = key_append p k done (e ∷ []) (record { wm = from.wm; said = said_from from k })
 
-pub sync_next : (g : ℕ) (p : Program) (done : List Event) (e : Event) → sync g p (done ++ e ∷ []) ≡ plain_step g p e (sync g p done)
-sync_next g p done e = steps_append g p done (e ∷ []) (plain_start p)
+pub sync_next : (g : ℕ) (p : Program) (from : Origin) (done : List Event) (e : Event) → sync_from g p from (done ++ e ∷ []) ≡ plain_step g p e (sync_from g p from done)
+sync_next g p from done e = steps_append g p done (e ∷ []) (plain_from from)
 
 pub watermark_taken : (g : ℕ) (p : Program) (w : ℤ) (s : Plain) → int_lt s.wm w ≡ true → plain_step g p (event.Mark w) s ≡ writes (Watermark w) (all_fired p (at_watermark w s))
 watermark_taken g p w s h = cond-true (int_lt s.wm w) (writes (Watermark w) (all_fired p (at_watermark w s))) s h
@@ -55,18 +56,18 @@ dropped (x ∷ xs) ys = dropped xs ys
 new_lines : (xs ys : List (List ℤ)) → Grows xs ys → xs ++ drop (length xs) ys ≡ ys
 new_lines xs ys g = ap (λ (l : List (List ℤ)). xs ++ drop (length xs) l) g.is ∙ (ap (λ (l : List (List ℤ)). xs ++ l) (dropped xs g.more) ∙ sym g.is)
 
-module _ (g : ℕ) (p : Program) (Good : Running → Type 0) (H : Handles p Good) where
+module _ (g : ℕ) (p : Program) (Good : Running → Type 0) (H : Handles p Good) (from : Origin) (fits : IsOrigin p from) where
   -- the machine and the plain thread of each key
   pub record Alone (m : Machine) (done : List Event) : Type 0 where
-    pub settles : (k : Key) → settled p (m.parts k) ≡ (key_sync p k done).said
+    pub settles : (k : Key) → settled p (m.parts k) ≡ (key_sync_from p from k done).said
     pub wrote : (k : Key) → lines_of k m.written ≡ part_lines (m.parts k)
     pub good : (k : Key) → OwnerGood Good (m.parts k).owner
     pub sorted : (k : Key) → PartSorted m.epoch (m.parts k)
-    pub wm : m.wm ≡ (sync g p done).wm
-    pub keys : m.keys ≡ (sync g p done).keys
+    pub wm : m.wm ≡ (sync_from g p from done).wm
+    pub keys : m.keys ≡ (sync_from g p from done).keys
 
-  pub plain_wm : (m : Machine) (done : List Event) → Alone m done → (k : Key) → m.wm ≡ (key_sync p k done).wm
-  plain_wm m done a k = a.wm ∙ (is_projected g p k done).wm
+  pub plain_wm : (m : Machine) (done : List Event) → Alone m done → (k : Key) → m.wm ≡ (key_sync_from p from k done).wm
+  plain_wm m done a k = a.wm ∙ (projected_from g p from fits k done).wm
 
   -- an event of one key
 
@@ -86,7 +87,7 @@ module _ (g : ℕ) (p : Program) (Good : Running → Type 0) (H : Handles p Good
 
   goes_alone : (k : Key) (must : Option Key) (q : Part) (m : Machine) (done : List Event) → Goes p Good (m.parts k) q → Alone m done → Alone (goes_on k must q m) done
   goes_alone k must q m done go a = record {
-    settles = on_part (λ (j : Key) (x : Part). settled p x ≡ (key_sync p j done).said) m.parts k q (go.settles ∙ a.settles k) a.settles;
+    settles = on_part (λ (j : Key) (x : Part). settled p x ≡ (key_sync_from p from j done).said) m.parts k q (go.settles ∙ a.settles k) a.settles;
     wrote = goes_wrote k must q m go a.wrote;
     good = on_part (λ (j : Key) (x : Part). OwnerGood Good x.owner) m.parts k q go.good a.good;
     sorted = on_part (λ (j : Key) (x : Part). PartSorted m.epoch x) m.parts k q (go.sorted m.epoch (a.sorted k)) a.sorted;
@@ -104,19 +105,19 @@ module _ (g : ℕ) (p : Program) (Good : Running → Type 0) (H : Handles p Good
   row_others j k time values s x = ap (λ (y : KeyPlain). y.said) (cond-false (bytes_eq k j) (record { wm = s.wm; said = ran p (on_row (row_facts s.wm time values)) s.said.state s.said }) s x)
 
   admit_settles : (n : ℕ) (k : Key) (time : ℤ) (values : List ℤ) (m : Machine) (done : List Event) → Alone m done
-      → (j : Key) → settled p (part_at m.parts k (admit n m.epoch (row_facts m.wm time values) (m.parts k)) j) ≡ (key_sync p j (done ++ event.Row k time values ∷ [])).said
+      → (j : Key) → settled p (part_at m.parts k (admit n m.epoch (row_facts m.wm time values) (m.parts k)) j) ≡ (key_sync_from p from j (done ++ event.Row k time values ∷ [])).said
   admit_settles n k time values m done a j =
       by_cases (bytes_eq k j)
       (λ x. ap (settled p) (cond-true (bytes_eq k j) next (m.parts j) x)
-      ∙ (subst (λ (i : Key). settled p next ≡ ran p (on_row (row_facts (key_sync p i done).wm time values)) (key_sync p i done).said.state (key_sync p i done).said) (key_is k j x) own
-      ∙ sym (row_said j k time values (key_sync p j done) x)))
-      (λ x. ap (settled p) (cond-false (bytes_eq k j) next (m.parts j) x) ∙ (a.settles j ∙ sym (row_others j k time values (key_sync p j done) x)))
-      ∙ sym (ap (λ (y : KeyPlain). y.said) (key_next p j done (event.Row k time values)))
+      ∙ (subst (λ (i : Key). settled p next ≡ ran p (on_row (row_facts (key_sync_from p from i done).wm time values)) (key_sync_from p from i done).said.state (key_sync_from p from i done).said) (key_is k j x) own
+      ∙ sym (row_said j k time values (key_sync_from p from j done) x)))
+      (λ x. ap (settled p) (cond-false (bytes_eq k j) next (m.parts j) x) ∙ (a.settles j ∙ sym (row_others j k time values (key_sync_from p from j done) x)))
+      ∙ sym (ap (λ (y : KeyPlain). y.said) (key_next p from j done (event.Row k time values)))
     where
       next : Part
       next = admit n m.epoch (row_facts m.wm time values) (m.parts k)
 
-      own : settled p next ≡ ran p (on_row (row_facts (key_sync p k done).wm time values)) (key_sync p k done).said.state (key_sync p k done).said
+      own : settled p next ≡ ran p (on_row (row_facts (key_sync_from p from k done).wm time values)) (key_sync_from p from k done).said.state (key_sync_from p from k done).said
       own = admitted p Good H n m.epoch (row_facts m.wm time values) (m.parts k)
           ∙ ap₂ (λ (u : ℤ) (s : Said). ran p (on_row (row_facts u time values)) s.state s) (plain_wm m done a k) (a.settles k)
 
@@ -126,8 +127,8 @@ module _ (g : ℕ) (p : Program) (Good : Running → Type 0) (H : Handles p Good
     wrote = λ j. a.wrote j ∙ on_part (λ (i : Key) (x : Part). part_lines (m.parts i) ≡ part_lines x) m.parts k (admit n m.epoch facts (m.parts k)) (sym kept.lines) (λ i. refl) j;
     good = on_part (λ (j : Key) (x : Part). OwnerGood Good x.owner) m.parts k (admit n m.epoch facts (m.parts k)) kept.good a.good;
     sorted = on_part (λ (j : Key) (x : Part). PartSorted m.epoch x) m.parts k (admit n m.epoch facts (m.parts k)) kept.sorted a.sorted;
-    wm = a.wm ∙ sym (ap (λ (s : Plain). s.wm) (sync_next g p done (event.Row k time values)));
-    keys = ap (λ (ks : List Key). insert_key key_cmp ks k) a.keys ∙ sym (ap (λ (s : Plain). s.keys) (sync_next g p done (event.Row k time values)));
+    wm = a.wm ∙ sym (ap (λ (s : Plain). s.wm) (sync_next g p from done (event.Row k time values)));
+    keys = ap (λ (ks : List Key). insert_key key_cmp ks k) a.keys ∙ sym (ap (λ (s : Plain). s.keys) (sync_next g p from done (event.Row k time values)));
   }
     where
       facts : Facts
@@ -144,7 +145,7 @@ module _ (g : ℕ) (p : Program) (Good : Running → Type 0) (H : Handles p Good
   mark_alone : (w : ℤ) (m : Machine) (done : List Event) → Alone m done → int_lt m.wm w ≡ true → Alone (happens g p (Close (ByWatermark w)) m) (done ++ event.Mark w ∷ [])
   mark_alone w m done a h = record {
     settles = λ k. marked p Good H m.epoch w most_firings (m.parts k) ∙ (ap (key_fires p w most_firings) (a.settles k)
-        ∙ sym (ap (λ (y : KeyPlain). y.said) (key_next p k done (event.Mark w)) ∙ mark_said k w (key_sync p k done) (subst (λ (u : ℤ). int_lt u w ≡ true) (plain_wm m done a k) h)));
+        ∙ sym (ap (λ (y : KeyPlain). y.said) (key_next p from k done (event.Mark w)) ∙ mark_said k w (key_sync_from p from k done) (subst (λ (u : ℤ). int_lt u w ≡ true) (plain_wm m done a k) h)));
     wrote = λ k. a.wrote k ∙ sym (kept k).lines;
     good = λ k. (kept k).good;
     sorted = λ k. part_higher m.epoch (suc m.epoch) (mark m.epoch w most_firings (m.parts k)) (omega arith) (kept k).sorted;
@@ -156,10 +157,10 @@ module _ (g : ℕ) (p : Program) (Good : Running → Type 0) (H : Handles p Good
       kept k = mark_keeps p Good H m.epoch w most_firings (m.parts k) (a.good k) (a.sorted k)
 
       before : Plain
-      before = at_watermark w (sync g p done)
+      before = at_watermark w (sync_from g p from done)
 
-      next : sync g p (done ++ event.Mark w ∷ []) ≡ writes (Watermark w) (all_fired p before)
-      next = sync_next g p done (event.Mark w) ∙ watermark_taken g p w (sync g p done) (subst (λ (u : ℤ). int_lt u w ≡ true) a.wm h)
+      next : sync_from g p from (done ++ event.Mark w ∷ []) ≡ writes (Watermark w) (all_fired p before)
+      next = sync_next g p from done (event.Mark w) ∙ watermark_taken g p w (sync_from g p from done) (subst (λ (u : ℤ). int_lt u w ≡ true) a.wm h)
 
       beside : IsSameBeside (all_fired p before) before
       beside = fire_all_beside p (most_firings * length before.keys) (λ k. most_firings) before
@@ -168,12 +169,12 @@ module _ (g : ℕ) (p : Program) (Good : Running → Type 0) (H : Handles p Good
 
   barrier_alone : (id : ℤ) (m : Machine) (done : List Event) → Alone m done → Alone (happens g p (Close (ByBarrier id)) m) (done ++ event.Barrier id ∷ [])
   barrier_alone id m done a = record {
-    settles = λ k. a.settles k ∙ sym (ap (λ (y : KeyPlain). y.said) (key_next p k done (event.Barrier id)));
+    settles = λ k. a.settles k ∙ sym (ap (λ (y : KeyPlain). y.said) (key_next p from k done (event.Barrier id)));
     wrote = a.wrote;
     good = a.good;
     sorted = λ k. part_higher m.epoch (suc m.epoch) (m.parts k) (omega arith) (a.sorted k);
-    wm = a.wm ∙ sym (ap (λ (s : Plain). s.wm) (sync_next g p done (event.Barrier id)));
-    keys = a.keys ∙ sym (ap (λ (s : Plain). s.keys) (sync_next g p done (event.Barrier id)));
+    wm = a.wm ∙ sym (ap (λ (s : Plain). s.wm) (sync_next g p from done (event.Barrier id)));
+    keys = a.keys ∙ sym (ap (λ (s : Plain). s.keys) (sync_next g p from done (event.Barrier id)));
   }
 
   -- the oldest marker is sent
@@ -219,19 +220,19 @@ module _ (g : ℕ) (p : Program) (Good : Running → Type 0) (H : Handles p Good
   run_alone r (e ∷ es) m done a h = subst (Alone (after_all g p es (happens g p e m))) (taken_next done e es)
       (run_alone r es (happens g p e m) (done ++ taken (e ∷ [])) (event_alone r e m done a h.0) h.1)
 
-  pub start_alone : Alone (machine_start p) []
+  pub start_alone : Alone (machine_from from) []
   unfolding OwnerGood PartSorted OwnerSorted Sorted
   start_alone = record { settles = λ k. refl; wrote = λ k. refl; good = λ k. tt; sorted = λ k. tt; wm = refl; keys = refl }
 
   -- each key goes as alone
-  pub goes_as_alone : (r : Rules) (es : List Happening) → IsRun r g p es (machine_start p) → Alone (machine_of g p es) (taken es)
-  goes_as_alone r es h = run_alone r es (machine_start p) [] start_alone h
+  pub goes_as_alone : (r : Rules) (es : List Happening) → IsRun r g p es (machine_from from) → Alone (machine_of g p from es) (taken es)
+  goes_as_alone r es h = run_alone r es (machine_from from) [] start_alone h
 
   -- what was written of a key and what is owed are its lines of the plain thread
-  pub written_then_owed : (m : Machine) (done : List Event) → Alone m done → (k : Key) → lines_of k m.written ++ owed p (m.parts k) ≡ lines_of k (sync g p done).entries
+  pub written_then_owed : (m : Machine) (done : List Event) → Alone m done → (k : Key) → lines_of k m.written ++ owed p (m.parts k) ≡ lines_of k (sync_from g p from done).entries
   written_then_owed m done a k =
       ap (λ (l : List (List ℤ)). l ++ owed p (m.parts k)) (a.wrote k)
-      ∙ (written_and_owed p Good H (m.parts k) ∙ (ap said_lines (a.settles k) ∙ sym (is_projected g p k done).lines))
+      ∙ (written_and_owed p Good H (m.parts k) ∙ (ap said_lines (a.settles k) ∙ sym (projected_from g p from fits k done).lines))
 
   work_takes_nothing : (e : Happening) → IsWork e → taken (e ∷ []) ≡ []
   work_takes_nothing (Admit n k time values) i = absurd i
@@ -246,4 +247,4 @@ module _ (g : ℕ) (p : Program) (Good : Running → Type 0) (H : Handles p Good
   pub work_keeps : (r : Rules) (e : Happening) (m : Machine) (done : List Event) → Alone m done → IsWork e → Allowed r e m → (k : Key) → settled p ((happens g p e m).parts k) ≡ settled p (m.parts k)
   work_keeps r e m done a i h k =
       (event_alone r e m done a h).settles k
-      ∙ (ap (λ (es : List Event). (key_sync p k (done ++ es)).said) (work_takes_nothing e i) ∙ (ap (λ (es : List Event). (key_sync p k es).said) (append-nil done) ∙ sym (a.settles k)))
+      ∙ (ap (λ (es : List Event). (key_sync_from p from k (done ++ es)).said) (work_takes_nothing e i) ∙ (ap (λ (es : List Event). (key_sync_from p from k es).said) (append-nil done) ∙ sym (a.settles k)))

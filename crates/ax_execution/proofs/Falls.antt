@@ -23,7 +23,8 @@ use Rattle.ax_machine.specs.KeySync.{Said}
 use Rattle.ax_execution.specs.Contexts.{Running, running_group, Stage, Unbegun, Begun, stage_group, Context, new_context, Waiting, Row, Mark, Part, part_groups, rows_in, is_due, is_idle_with, is_idle}
 use Rattle.ax_execution.specs.Rest.{served_at, stage_work, owner_work, part_work}
 use Rattle.ax_execution.specs.Turns.{handed, timed, closed_with, left_by, staged, called_back, no_answers, begins, start_stage, start_owner, start, answered, serve_request, serve_stage, serve_owner, serve, gives, give_answer, deliver_stage, deliver_owner, deliver, fire_due, fire_front, fire}
-use Rattle.ax_execution.specs.Machine.{Closed, Machine, Happening, Admit, Close, Fire, Start, Serve, Deliver, Send, Rules, part_at, must_fire, goes_on, send_first, happens, FirstIsFinished, StageUnbegun, StageAsks, StageHas, OfOwner, Allowed, IsRun, taken, machine_start, machine_of, IsWork, work}
+use Rattle.ax_execution.specs.Machine.{Closed, Machine, Happening, Admit, Close, Fire, Start, Serve, Deliver, Send, Rules, part_at, must_fire, goes_on, send_first, happens, FirstIsFinished, StageUnbegun, StageAsks, StageHas, OfOwner, Allowed, IsRun, taken, machine_from, machine_of, IsWork, work}
+use Rattle.ax_execution.specs.Origins.{Origin, IsOrigin}
 use Rattle.ax_execution.proofs.Handles.{Handles, silenced}
 use Rattle.ax_execution.proofs.Handles as handles
 use Rattle.ax_execution.proofs.Upto.{part_of, StageGood, OwnerGood, Goes, start_goes, serve_goes, deliver_goes, fire_goes}
@@ -217,8 +218,8 @@ module _ (p : Program) (Good : Running → Type 0) (H : Handles p Good) where
       goes_falls m rises k (must_fire k (deliver slot (m.parts k))) (deliver slot (m.parts k)) (present r m o (StageHas slot) k h.1) (deliver_goes p Good H slot (m.parts k) (good k)) (deliver_does slot (m.parts k) (good k) h.1)
   event_falls g r m o rises good Send i h = send_falls g m m.unsent refl h.1
 
-  pub work_falls : (g : ℕ) (r : Rules) (es : List Happening) → IsRun r g p es (machine_start p) → (e : Happening) → IsWork e → Allowed r e (machine_of g p es)
-      → suc (work p (happens g p e (machine_of g p es))) ≡ work p (machine_of g p es)
-  work_falls g r es run e i h =
-      let a : Alone g p Good H (machine_of g p es) (taken es) = goes_as_alone g p Good H r es run in
-      event_falls g r (machine_of g p es) (always_orderly g p Good H r es run) (keys_rise g p Good H (machine_of g p es) (taken es) a) a.good e i h
+  pub work_falls : (g : ℕ) (from : Origin) (fits : IsOrigin p from) (r : Rules) (es : List Happening) → IsRun r g p es (machine_from from) → (e : Happening) → IsWork e → Allowed r e (machine_of g p from es)
+      → suc (work p (happens g p e (machine_of g p from es))) ≡ work p (machine_of g p from es)
+  work_falls g from fits r es run e i h =
+      let a : Alone g p Good H from fits (machine_of g p from es) (taken es) = goes_as_alone g p Good H from fits r es run in
+      event_falls g r (machine_of g p from es) (always_orderly g p Good H from fits r es run) (keys_rise g p Good H from fits (machine_of g p from es) (taken es) a) a.good e i h

@@ -10,7 +10,7 @@ use Rattle.ax_machine.specs.Events.{Event}
 use Rattle.ax_machine.specs.Events as event
 use Rattle.ax_machine.specs.Firings.{Due, most_firings, next_due, one_less}
 use Rattle.ax_machine.specs.Blocks.{block_text}
-use Rattle.ax_machine.specs.Sync.{Plain, without_least, fire_next, fire_all, all_fired, at_watermark, writes, parts_of, block_of, sync}
+use Rattle.ax_machine.specs.Sync.{Plain, without_least, fire_next, fire_all, all_fired, at_watermark, writes, parts_of, block_of}
 use Rattle.ax_machine.specs.Sync as plain
 use Rattle.ax_machine.specs.Lawful.{IsPrefix, Cut, one_more, cuts_from, cuts, markers, HasAll, IsStrict, HasNoMore, line_count, LawfulSoFar, Lawful}
 use Rattle.ax_machine.proofs.FrontLemmas.{counts_behind, cuts_from-append, counts_behind-is, markers-append, prefix_count}
@@ -21,8 +21,9 @@ use Rattle.ax_machine.specs.KeySync.{Said}
 use Rattle.ax_execution.specs.Contexts.{Running, Context, Waiting, Part, part_lines}
 use Rattle.ax_execution.specs.Rest.{settled}
 use Rattle.ax_execution.specs.Turns.{admit, mark, fire, start, serve, deliver}
-use Rattle.ax_execution.specs.Machine.{Closing, ByWatermark, ByBarrier, Closed, Machine, Happening, Admit, Close, Fire, Start, Serve, Deliver, Send, Rules, part_at, must_fire, goes_on, marker_of, send_first, close, happens, IsWatermark, NoBarrier, IsOpen, IsFinished, FirstIsFinished, Allowed, IsRun, after_all, taken, machine_start, machine_of, IsAtRest}
-use Rattle.ax_machine.proofs.KeyLemmas.{is_projected}
+use Rattle.ax_execution.specs.Machine.{Closing, ByWatermark, ByBarrier, Closed, Machine, Happening, Admit, Close, Fire, Start, Serve, Deliver, Send, Rules, part_at, must_fire, goes_on, marker_of, send_first, close, happens, IsWatermark, NoBarrier, IsOpen, IsFinished, FirstIsFinished, Allowed, IsRun, after_all, taken, machine_from, machine_of, IsAtRest}
+use Rattle.ax_execution.specs.Origins.{Origin, IsOrigin, plain_from, sync_from, said_from, key_sync_from}
+use Rattle.ax_execution.proofs.Projected.{projected_from}
 use Rattle.ax_execution.proofs.Handles.{Handles}
 use Rattle.ax_execution.proofs.Upto.{by_cases, Grows, said_lines, part_of, PartSorted, upto, Goes, settled_grows, start_goes, serve_goes, deliver_goes, fire_goes, admit_upto, mark_upto, full_upto, finished_lines, nothing_left, mark_keeps}
 use Rattle.ax_execution.proofs.Alone.{sync_next, watermark_taken, on_part, Alone, event_alone, start_alone, taken_next}
@@ -86,7 +87,7 @@ pub IsBarrier : Closing → Type 0
 IsBarrier (ByWatermark t) = ⊥
 IsBarrier (ByBarrier id) = Unit {0}
 
-module _ (g : ℕ) (p : Program) (Good : Running → Type 0) (H : Handles p Good) (serial : Bool) where
+module _ (g : ℕ) (p : Program) (Good : Running → Type 0) (H : Handles p Good) (from : Origin) (fits : IsOrigin p from) (serial : Bool) where
   -- what the marker of an epoch is to be
   pub IsPlanned : Closing → Marker → Plain → Type 0
   IsPlanned (ByWatermark t) mk s = mk ≡ Watermark t
@@ -145,19 +146,19 @@ module _ (g : ℕ) (p : Program) (Good : Running → Type 0) (H : Handles p Good
 
   -- the machine and the plain thread
   pub record IsInStep (m : Machine) (done : List Event) : Type 0 where
-    pub alone : Alone g p Good H m done
+    pub alone : Alone g p Good H from fits m done
     pub sent : List Cut
     pub unsent : List Cut
-    pub cuts_are : cuts (sync g p done).entries ≡ sent ++ unsent
+    pub cuts_are : cuts (sync_from g p from done).entries ≡ sent ++ unsent
     pub paired : Paired serial (cuts m.written) sent
-    pub awaits : Awaits m.parts m.epoch (sync g p done) unsent m.unsent
+    pub awaits : Awaits m.parts m.epoch (sync_from g p from done) unsent m.unsent
 
   -- what follows from it
 
-  plain_lines : (m : Machine) (done : List Event) → Alone g p Good H m done → (k : Key) → said_lines (settled p (m.parts k)) ≡ lines_of k (sync g p done).entries
-  plain_lines m done a k = ap said_lines (a.settles k) ∙ sym (is_projected g p k done).lines
+  plain_lines : (m : Machine) (done : List Event) → Alone g p Good H from fits m done → (k : Key) → said_lines (settled p (m.parts k)) ≡ lines_of k (sync_from g p from done).entries
+  plain_lines m done a k = ap said_lines (a.settles k) ∙ sym (projected_from g p from fits k done).lines
 
-  lines_prefix : (m : Machine) (done : List Event) → Alone g p Good H m done → (k : Key) → IsPrefix (lines_of k m.written) (lines_of k (sync g p done).entries)
+  lines_prefix : (m : Machine) (done : List Event) → Alone g p Good H from fits m done → (k : Key) → IsPrefix (lines_of k m.written) (lines_of k (sync_from g p from done).entries)
   lines_prefix m done a k =
       let w : Grows (part_lines (m.parts k)) (said_lines (settled p (m.parts k))) = settled_grows p Good H (m.parts k) in
       (w.more, sym (plain_lines m done a k) ∙ (w.is ∙ ap (λ (l : List (List ℤ)). l ++ w.more) (sym (a.wrote k))))
@@ -170,16 +171,16 @@ module _ (g : ℕ) (p : Program) (Good : Running → Type 0) (H : Handles p Good
   awaits_no_more all parts now s (d ∷ ds) (c ∷ cs) h a =
       (λ t k. (let l : all k ≤ line_count s.entries k = h k in let r : line_count s.entries k ≤ d.lines k = a.0.at_most t k in omega arith), awaits_no_more all parts now s ds cs h a.1)
 
-  pub so_far : (m : Machine) (done : List Event) → IsInStep m done → LawfulSoFar serial m.written (sync g p done).entries
+  pub so_far : (m : Machine) (done : List Event) → IsInStep m done → LawfulSoFar serial m.written (sync_from g p from done).entries
   so_far m done i =
-      let lines : (k : Key) → IsPrefix (lines_of k m.written) (lines_of k (sync g p done).entries) = lines_prefix m done i.alone in
+      let lines : (k : Key) → IsPrefix (lines_of k m.written) (lines_of k (sync_from g p from done).entries) = lines_prefix m done i.alone in
       record {
         lines = lines;
         markers = (markers i.unsent, ap markers i.cuts_are ∙ (markers-append i.sent i.unsent ∙ ap (λ (ms : List Marker). ms ++ markers i.unsent) (sym (paired_markers serial (cuts m.written) i.sent i.paired))));
         has_all = subst (HasAll (cuts m.written)) (sym i.cuts_are) (paired_all serial (cuts m.written) i.sent i.unsent i.paired);
         has_no_more = subst (HasNoMore serial (line_count m.written) (cuts m.written)) (sym i.cuts_are)
             (paired_no_more serial (line_count m.written) (cuts m.written) i.sent i.unsent
-            (awaits_no_more (line_count m.written) m.parts m.epoch (sync g p done) i.unsent m.unsent (λ k. prefix_count _ _ (lines k)) i.awaits) i.paired);
+            (awaits_no_more (line_count m.written) m.parts m.epoch (sync_from g p from done) i.unsent m.unsent (λ k. prefix_count _ _ (lines k)) i.awaits) i.paired);
       }
 
   -- where the machine is at rest
@@ -195,10 +196,10 @@ module _ (g : ℕ) (p : Program) (Good : Running → Type 0) (H : Handles p Good
   rest_at None (i ∷ is) s a b = absurd (cc b)
   rest_at (Some c) is s a b = absurd (cc a)
 
-  pub at_rest : (m : Machine) (done : List Event) → IsInStep m done → IsAtRest m → Lawful serial m.written (sync g p done).entries
+  pub at_rest : (m : Machine) (done : List Event) → IsInStep m done → IsAtRest m → Lawful serial m.written (sync_from g p from done).entries
   at_rest m done i r =
-      let part : LawfulSoFar serial m.written (sync g p done).entries = so_far m done i in
-      let none : i.unsent ≡ [] = none_unsent m.parts m.epoch (sync g p done) i.unsent m.unsent r.unsent i.awaits in
+      let part : LawfulSoFar serial m.written (sync_from g p from done).entries = so_far m done i in
+      let none : i.unsent ≡ [] = none_unsent m.parts m.epoch (sync_from g p from done) i.unsent m.unsent r.unsent i.awaits in
       record {
         lines = λ k. i.alone.wrote k ∙ (rest_at (m.parts k).owner (m.parts k).waiting (m.parts k).said (r.owners k) (r.waiting k) ∙ plain_lines m done i.alone k);
         markers = paired_markers serial (cuts m.written) i.sent i.paired ∙ sym (ap markers (i.cuts_are ∙ (ap (λ (ds : List Cut). i.sent ++ ds) none ∙ append-nil i.sent)));
@@ -208,7 +209,7 @@ module _ (g : ℕ) (p : Program) (Good : Running → Type 0) (H : Handles p Good
 
   -- an event of one key
 
-  goes_in_step : (k : Key) (must : Option Key) (q : Part) (m : Machine) (done : List Event) → Goes p Good (m.parts k) q → Alone g p Good H (goes_on k must q m) done → IsInStep m done
+  goes_in_step : (k : Key) (must : Option Key) (q : Part) (m : Machine) (done : List Event) → Goes p Good (m.parts k) q → Alone g p Good H from fits (goes_on k must q m) done → IsInStep m done
       → IsInStep (goes_on k must q m) done
   goes_in_step k must q m done go a i = record {
     alone = a;
@@ -216,7 +217,7 @@ module _ (g : ℕ) (p : Program) (Good : Running → Type 0) (H : Handles p Good
     unsent = i.unsent;
     cuts_are = i.cuts_are;
     paired = subst (λ (cs : List Cut). Paired serial cs i.sent) (sym (cuts_said m.written k (drop (length (part_lines (m.parts k))) (part_lines q)))) i.paired;
-    awaits = awaits_map m.parts (part_at m.parts k q) m.epoch m.epoch (sync g p done) (sync g p done)
+    awaits = awaits_map m.parts (part_at m.parts k q) m.epoch m.epoch (sync_from g p from done) (sync_from g p from done)
         (λ d c w. record {
           earlier = w.earlier;
           planned = w.planned;
@@ -232,8 +233,8 @@ module _ (g : ℕ) (p : Program) (Good : Running → Type 0) (H : Handles p Good
 
   -- the oldest marker is sent
 
-  marker_planned : (c : Closed) (d : Cut) (m : Machine) (done : List Event) → Alone g p Good H m done → Await m.parts m.epoch (sync g p done) d c → IsFinished c.epoch m
-      → (cl : Closing) → c.closing ≡ cl → IsPlanned cl d.marker (sync g p done) → marker_of g p cl m ≡ d.marker
+  marker_planned : (c : Closed) (d : Cut) (m : Machine) (done : List Event) → Alone g p Good H from fits m done → Await m.parts m.epoch (sync_from g p from done) d c → IsFinished c.epoch m
+      → (cl : Closing) → c.closing ≡ cl → IsPlanned cl d.marker (sync_from g p from done) → marker_of g p cl m ≡ d.marker
   unfolding IsPlanned IsBarrier
   marker_planned c d m done a w f (ByWatermark t) e h = sym h
   marker_planned c d m done a w f (ByBarrier id) e h = same ∙ sym h
@@ -241,19 +242,19 @@ module _ (g : ℕ) (p : Program) (Good : Running → Type 0) (H : Handles p Good
       is_barrier : IsBarrier (ByBarrier id)
       is_barrier = tt
 
-      states : (k : Key) → (m.parts k).said.state ≡ (sync g p done).map k
-      states k = ap (λ (s : Said). s.state) (sym (nothing_left p Good H c.epoch (m.parts k) (w.last (subst IsBarrier (sym e) is_barrier) k) (f k)) ∙ a.settles k) ∙ sym (is_projected g p k done).state
+      states : (k : Key) → (m.parts k).said.state ≡ (sync_from g p from done).map k
+      states k = ap (λ (s : Said). s.state) (sym (nothing_left p Good H c.epoch (m.parts k) (w.last (subst IsBarrier (sym e) is_barrier) k) (f k)) ∙ a.settles k) ∙ sym (projected_from g p from fits k done).state
 
-      maps : (λ (k : Key). (m.parts k).said.state) ≡ (sync g p done).map
+      maps : (λ (k : Key). (m.parts k).said.state) ≡ (sync_from g p from done).map
       maps = fun_ext states
 
-      same : marker_of g p (ByBarrier id) m ≡ block_of g p id (sync g p done)
+      same : marker_of g p (ByBarrier id) m ≡ block_of g p id (sync_from g p from done)
       same = λ i. Block (block_text g p.states id (a.wm i) (parts_of (a.keys i) (maps i)))
 
-  send_in_step : (m : Machine) (done : List Event) → IsInStep m done → (cs : List Closed) → m.unsent ≡ cs → FirstIsFinished cs m → Alone g p Good H (send_first g p cs m) done → IsInStep (send_first g p cs m) done
+  send_in_step : (m : Machine) (done : List Event) → IsInStep m done → (cs : List Closed) → m.unsent ≡ cs → FirstIsFinished cs m → Alone g p Good H from fits (send_first g p cs m) done → IsInStep (send_first g p cs m) done
   unfolding Awaits
   send_in_step m done i [] e f a = absurd f
-  send_in_step m done i (c ∷ cs) e f a = of i.unsent i.cuts_are (subst (Awaits m.parts m.epoch (sync g p done) i.unsent) e i.awaits)
+  send_in_step m done i (c ∷ cs) e f a = of i.unsent i.cuts_are (subst (Awaits m.parts m.epoch (sync_from g p from done) i.unsent) e i.awaits)
     where
       mk : Marker
       mk = marker_of g p c.closing m
@@ -261,7 +262,7 @@ module _ (g : ℕ) (p : Program) (Good : Running → Type 0) (H : Handles p Good
       counted : (k : Key) → counts m.written k ≡ line_count m.written k
       counted k = let t : counts m.written k ≡ 0 + line_count m.written k = counts_behind-is (λ j. 0) m.written k in omega arith
 
-      of : (u : List Cut) → cuts (sync g p done).entries ≡ i.sent ++ u → Awaits m.parts m.epoch (sync g p done) u (c ∷ cs) → IsInStep (send_first g p (c ∷ cs) m) done
+      of : (u : List Cut) → cuts (sync_from g p from done).entries ≡ i.sent ++ u → Awaits m.parts m.epoch (sync_from g p from done) u (c ∷ cs) → IsInStep (send_first g p (c ∷ cs) m) done
       of [] q w = absurd w
       of (d ∷ ds) q w = record {
         alone = a;
@@ -283,8 +284,8 @@ module _ (g : ℕ) (p : Program) (Good : Running → Type 0) (H : Handles p Good
 
           most : IsStrict serial d.marker → (k : Key) → counts m.written k ≤ d.lines k
           most s k =
-              let x : line_count (sync g p done).entries k ≤ d.lines k = w.0.at_most s k in
-              let y : line_count m.written k ≤ line_count (sync g p done).entries k = prefix_count _ _ (lines_prefix m done i.alone k) in
+              let x : line_count (sync_from g p from done).entries k ≤ d.lines k = w.0.at_most s k in
+              let y : line_count m.written k ≤ line_count (sync_from g p from done).entries k = prefix_count _ _ (lines_prefix m done i.alone k) in
               let t : counts m.written k ≡ line_count m.written k = counted k in omega arith
 
   -- a row is admitted
@@ -316,16 +317,16 @@ module _ (g : ℕ) (p : Program) (Good : Running → Type 0) (H : Handles p Good
   }
 
   admit_in_step : (r : Rules) → r.serial ≡ serial → (n : ℕ) (k : Key) (time : ℤ) (values : List ℤ) (m : Machine) (done : List Event) → IsInStep m done → IsOpen r m
-      → Alone g p Good H (happens g p (Admit n k time values) m) (done ++ event.Row k time values ∷ []) → IsInStep (happens g p (Admit n k time values) m) (done ++ event.Row k time values ∷ [])
+      → Alone g p Good H from fits (happens g p (Admit n k time values) m) (done ++ event.Row k time values ∷ []) → IsInStep (happens g p (Admit n k time values) m) (done ++ event.Row k time values ∷ [])
   admit_in_step r same n k time values m done i o a = record {
     alone = a;
     sent = i.sent;
     unsent = i.unsent;
-    cuts_are = ap (λ (s : Plain). cuts s.entries) (sync_next g p done (event.Row k time values))
-        ∙ (cuts_said (sync g p done).entries k (job_run p (row_job (sync g p done).wm time values) ((sync g p done).map k).cells).talk.lines ∙ i.cuts_are);
+    cuts_are = ap (λ (s : Plain). cuts s.entries) (sync_next g p from done (event.Row k time values))
+        ∙ (cuts_said (sync_from g p from done).entries k (job_run p (row_job (sync_from g p from done).wm time values) ((sync_from g p from done).map k).cells).talk.lines ∙ i.cuts_are);
     paired = i.paired;
-    awaits = awaits_open m.parts (part_at m.parts k next) m.epoch m.epoch (sync g p done) (sync g p (done ++ event.Row k time values ∷ [])) i.unsent m.unsent o.0 (λ x. o.1 (same ∙ x))
-        (still_awaits m.parts (part_at m.parts k next) m.epoch m.epoch (sync g p done) (sync g p (done ++ event.Row k time values ∷ [])) (omega arith)
+    awaits = awaits_open m.parts (part_at m.parts k next) m.epoch m.epoch (sync_from g p from done) (sync_from g p from (done ++ event.Row k time values ∷ [])) i.unsent m.unsent o.0 (λ x. o.1 (same ∙ x))
+        (still_awaits m.parts (part_at m.parts k next) m.epoch m.epoch (sync_from g p from done) (sync_from g p from (done ++ event.Row k time values ∷ [])) (omega arith)
         (λ e j h. on_part (λ (l : Key) (x : Part). upto p e x ≡ upto p e (m.parts l)) m.parts k next (admit_upto p Good H e m.epoch n (row_facts m.wm time values) (m.parts k) h) (λ l. refl) j))
         i.awaits;
   }
@@ -353,8 +354,8 @@ module _ (g : ℕ) (p : Program) (Good : Running → Type 0) (H : Handles p Good
       lines_are k = ap (lines_of k) q ∙ lines_of_marked k es mk
 
   close_in_step : (r : Rules) → r.serial ≡ serial → (c : Closing) (parts : Key → Part) (wm : ℤ) (m : Machine) (done : List Event) (ev : Event) (es : List Entry) (mk : Marker) → IsInStep m done → IsOpen r m
-      → Alone g p Good H (close c parts wm m) (done ++ ev ∷ [])
-      → (sync g p (done ++ ev ∷ [])).entries ≡ es ++ entry.Mark mk ∷ [] → cuts es ≡ cuts (sync g p done).entries → IsPlanned c mk (sync g p (done ++ ev ∷ []))
+      → Alone g p Good H from fits (close c parts wm m) (done ++ ev ∷ [])
+      → (sync_from g p from (done ++ ev ∷ [])).entries ≡ es ++ entry.Mark mk ∷ [] → cuts es ≡ cuts (sync_from g p from done).entries → IsPlanned c mk (sync_from g p from (done ++ ev ∷ []))
       → ((k : Key) → PartSorted m.epoch (parts k)) → ((e : ℕ) (k : Key) → e < m.epoch → upto p e (parts k) ≡ upto p e (m.parts k))
       → IsInStep (close c parts wm m) (done ++ ev ∷ [])
   close_in_step r same c parts wm m done ev es mk i o a q x pl so u = record {
@@ -364,13 +365,13 @@ module _ (g : ℕ) (p : Program) (Good : Running → Type 0) (H : Handles p Good
     cuts_are = ap cuts q ∙ (cuts_marked es mk ∙ (ap (λ (cs : List Cut). cs ++ cut_behind mk es ∷ []) (x ∙ i.cuts_are) ∙ append_assoc i.sent i.unsent (cut_behind mk es ∷ [])));
     paired = i.paired;
     awaits = awaits_more parts (suc m.epoch) s' (cut_behind mk es) (record { epoch = m.epoch; closing = c }) i.unsent m.unsent
-        (awaits_open m.parts parts m.epoch (suc m.epoch) (sync g p done) s' i.unsent m.unsent o.0 (λ x. o.1 (same ∙ x))
-        (still_awaits m.parts parts m.epoch (suc m.epoch) (sync g p done) s' (omega arith) u) i.awaits)
+        (awaits_open m.parts parts m.epoch (suc m.epoch) (sync_from g p from done) s' i.unsent m.unsent o.0 (λ x. o.1 (same ∙ x))
+        (still_awaits m.parts parts m.epoch (suc m.epoch) (sync_from g p from done) s' (omega arith) u) i.awaits)
         (new_awaits parts m.epoch s' es mk c q (plain_lines (close c parts wm m) (done ++ ev ∷ []) a) so pl);
   }
     where
       s' : Plain
-      s' = sync g p (done ++ ev ∷ [])
+      s' = sync_from g p from (done ++ ev ∷ [])
 
   fire_cuts : (fuel : ℕ) (more : Key → ℕ) (s : Plain) → cuts (fire_all p fuel more s).entries ≡ cuts s.entries
   fire_cuts zero more s = refl
@@ -381,27 +382,27 @@ module _ (g : ℕ) (p : Program) (Good : Running → Type 0) (H : Handles p Good
       of (Some d) go = go (one_less more d.key) (plain.fire p d s) ∙ cuts_said s.entries d.key (job_run p (firing_job s.wm d.time) (s.map d.key).cells).talk.lines
 
   mark_in_step : (r : Rules) → r.serial ≡ serial → (w : ℤ) (m : Machine) (done : List Event) → IsInStep m done → IsOpen r m → int_lt m.wm w ≡ true
-      → Alone g p Good H (happens g p (Close (ByWatermark w)) m) (done ++ event.Mark w ∷ []) → IsInStep (happens g p (Close (ByWatermark w)) m) (done ++ event.Mark w ∷ [])
+      → Alone g p Good H from fits (happens g p (Close (ByWatermark w)) m) (done ++ event.Mark w ∷ []) → IsInStep (happens g p (Close (ByWatermark w)) m) (done ++ event.Mark w ∷ [])
   unfolding IsPlanned
   mark_in_step r same w m done i o h a =
       close_in_step r same (ByWatermark w) (λ k. mark m.epoch w most_firings (m.parts k)) w m done (event.Mark w) fired.entries (Watermark w) i o a
-      (ap (λ (s : Plain). s.entries) (sync_next g p done (event.Mark w) ∙ watermark_taken g p w (sync g p done) (subst (λ (u : ℤ). int_lt u w ≡ true) i.alone.wm h)))
-      (fire_cuts (most_firings * length (sync g p done).keys) (λ k. most_firings) (at_watermark w (sync g p done)))
+      (ap (λ (s : Plain). s.entries) (sync_next g p from done (event.Mark w) ∙ watermark_taken g p w (sync_from g p from done) (subst (λ (u : ℤ). int_lt u w ≡ true) i.alone.wm h)))
+      (fire_cuts (most_firings * length (sync_from g p from done).keys) (λ k. most_firings) (at_watermark w (sync_from g p from done)))
       refl
       (λ k. (mark_keeps p Good H m.epoch w most_firings (m.parts k) (i.alone.good k) (i.alone.sorted k)).sorted)
       (λ e k x. mark_upto p Good H e m.epoch w most_firings (m.parts k) x)
     where
       fired : Plain
-      fired = all_fired p (at_watermark w (sync g p done))
+      fired = all_fired p (at_watermark w (sync_from g p from done))
 
   barrier_in_step : (r : Rules) → r.serial ≡ serial → (id : ℤ) (m : Machine) (done : List Event) → IsInStep m done → IsOpen r m
-      → Alone g p Good H (happens g p (Close (ByBarrier id)) m) (done ++ event.Barrier id ∷ []) → IsInStep (happens g p (Close (ByBarrier id)) m) (done ++ event.Barrier id ∷ [])
+      → Alone g p Good H from fits (happens g p (Close (ByBarrier id)) m) (done ++ event.Barrier id ∷ []) → IsInStep (happens g p (Close (ByBarrier id)) m) (done ++ event.Barrier id ∷ [])
   unfolding IsPlanned
   barrier_in_step r same id m done i o a =
-      close_in_step r same (ByBarrier id) m.parts m.wm m done (event.Barrier id) (sync g p done).entries (block_of g p id (sync g p done)) i o a
-      (ap (λ (s : Plain). s.entries) (sync_next g p done (event.Barrier id)))
+      close_in_step r same (ByBarrier id) m.parts m.wm m done (event.Barrier id) (sync_from g p from done).entries (block_of g p id (sync_from g p from done)) i o a
+      (ap (λ (s : Plain). s.entries) (sync_next g p from done (event.Barrier id)))
       refl
-      (ap (block_of g p id) (sym (sync_next g p done (event.Barrier id))))
+      (ap (block_of g p id) (sym (sync_next g p from done (event.Barrier id))))
       i.alone.sorted
       (λ e k x. refl)
 
@@ -410,11 +411,11 @@ module _ (g : ℕ) (p : Program) (Good : Running → Type 0) (H : Handles p Good
   none_more : (m : Machine) (done : List Event) → IsInStep m done → IsInStep m (done ++ [])
   none_more m done i = subst (IsInStep m) (sym (append-nil done)) i
 
-  of_none : (m : Machine) (done : List Event) → Alone g p Good H m (done ++ []) → Alone g p Good H m done
-  of_none m done a = subst (Alone g p Good H m) (append-nil done) a
+  of_none : (m : Machine) (done : List Event) → Alone g p Good H from fits m (done ++ []) → Alone g p Good H from fits m done
+  of_none m done a = subst (Alone g p Good H from fits m) (append-nil done) a
 
   event_at : (r : Rules) → r.serial ≡ serial → (e : Happening) (m : Machine) (done : List Event) → IsInStep m done → Allowed r e m
-      → Alone g p Good H (happens g p e m) (done ++ taken (e ∷ [])) → IsInStep (happens g p e m) (done ++ taken (e ∷ []))
+      → Alone g p Good H from fits (happens g p e m) (done ++ taken (e ∷ [])) → IsInStep (happens g p e m) (done ++ taken (e ∷ []))
   event_at r same (Admit n k time values) m done i h a = admit_in_step r same n k time values m done i h.1 a
   event_at r same (Close (ByWatermark w)) m done i h a = mark_in_step r same w m done i h.1 h.2 a
   event_at r same (Close (ByBarrier id)) m done i h a = barrier_in_step r same id m done i h.1 a
@@ -425,17 +426,17 @@ module _ (g : ℕ) (p : Program) (Good : Running → Type 0) (H : Handles p Good
   event_at r same Send m done i h a = none_more _ done (send_in_step m done i m.unsent refl h.1 (of_none _ done a))
 
   pub event_in_step : (r : Rules) → r.serial ≡ serial → (e : Happening) (m : Machine) (done : List Event) → IsInStep m done → Allowed r e m → IsInStep (happens g p e m) (done ++ taken (e ∷ []))
-  event_in_step r same e m done i h = event_at r same e m done i h (event_alone g p Good H r e m done i.alone h)
+  event_in_step r same e m done i h = event_at r same e m done i h (event_alone g p Good H from fits r e m done i.alone h)
 
   pub run_in_step : (r : Rules) → r.serial ≡ serial → (es : List Happening) (m : Machine) (done : List Event) → IsInStep m done → IsRun r g p es m → IsInStep (after_all g p es m) (done ++ taken es)
   run_in_step r same [] m done i h = none_more m done i
-  run_in_step r same (e ∷ es) m done i h = subst (IsInStep (after_all g p es (happens g p e m))) (taken_next g p Good H done e es)
+  run_in_step r same (e ∷ es) m done i h = subst (IsInStep (after_all g p es (happens g p e m))) (taken_next g p Good H from fits done e es)
       (run_in_step r same es (happens g p e m) (done ++ taken (e ∷ [])) (event_in_step r same e m done i h.0) h.1)
 
-  pub start_in_step : IsInStep (machine_start p) []
+  pub start_in_step : IsInStep (machine_from from) []
   unfolding Awaits Paired
-  start_in_step = record { alone = start_alone g p Good H; sent = []; unsent = []; cuts_are = refl; paired = tt; awaits = tt }
+  start_in_step = record { alone = start_alone g p Good H from fits; sent = []; unsent = []; cuts_are = refl; paired = tt; awaits = tt }
 
   -- whatever events come, the machine is in step with the plain thread
-  pub always_in_step : (r : Rules) → r.serial ≡ serial → (es : List Happening) → IsRun r g p es (machine_start p) → IsInStep (machine_of g p es) (taken es)
-  always_in_step r same es h = run_in_step r same es (machine_start p) [] start_in_step h
+  pub always_in_step : (r : Rules) → r.serial ≡ serial → (es : List Happening) → IsRun r g p es (machine_from from) → IsInStep (machine_of g p from es) (taken es)
+  always_in_step r same es h = run_in_step r same es (machine_from from) [] start_in_step h

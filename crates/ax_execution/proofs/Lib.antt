@@ -1,3 +1,5 @@
+pub mod Skips
+pub mod Projected
 pub mod Counts
 pub mod Wakeful
 pub mod Alone

@@ -10,6 +10,7 @@ use Rattle.ax_text.specs.declared.vocabulary.Request.{Request}
 use Rattle.ax_text.specs.declared.vocabulary.Answer.{Answer}
 use Rattle.ax_text.specs.Functions.{upd}
 use Rattle.ax_text.specs.Exprs.{Facts}
+use Rattle.ax_text.specs.KeyStates.{KeyState}
 use Rattle.ax_text.specs.Programs.{Program}
 use Rattle.ax_machine.specs.Entries.{Key}
 use Rattle.ax_machine.specs.Events.{Event}
@@ -18,14 +19,15 @@ use Rattle.ax_execution.specs.Sums.{total}
 use Rattle.ax_machine.specs.Sync.{without_least}
 use Rattle.ax_machine.proofs.FiringLemmas.{key_is, same_key, has_inserted}
 use Rattle.ax_execution.proofs.KeySums.{in_total}
-use Rattle.ax_machine.proofs.RisingLemmas.{sync_rises}
+use Rattle.ax_execution.specs.Origins.{Origin, IsOrigin, sync_from}
+use Rattle.ax_execution.proofs.Projected.{rises_from}
 use Rattle.ax_text.specs.Controls.{is_done, request_at}
 use Rattle.ax_text.specs.Jobs.{firing_job}
 use Rattle.ax_execution.specs.Groups.{row_facts}
 use Rattle.ax_machine.specs.KeySync.{Said}
 use Rattle.ax_execution.specs.Contexts.{Running, running_group, Stage, Unbegun, Begun, Context, new_context, Waiting, Row, Mark, Part, contexts_in, owners, rows_in, is_due, may_fire, is_idle_with, is_idle}
 use Rattle.ax_execution.specs.Turns.{handed, timed, closed_with, left_by, staged, called_back, no_answers, begins, start_stage, start_owner, start, serve_request, serve_stage, serve_owner, serve, gives, give_answer, deliver_stage, deliver_owner, deliver, fire_due, fire_front, fire, admit_at, admit, mark_at, mark}
-use Rattle.ax_execution.specs.Machine.{ByWatermark, ByBarrier, Closed, Machine, Happening, Admit, Close, Fire, Start, Serve, Deliver, Send, Rules, part_at, must_fire, goes_on, calls_back, send_first, happens, in_flight, NoneIsIdle, NumbersOwner, NotIn, IsNew, StageUnbegun, StageAsks, StageHas, OfOwner, MayFireNow, Allowed, IsRun, after_all, taken, machine_start, machine_of, IsAtRest, IsWork}
+use Rattle.ax_execution.specs.Machine.{ByWatermark, ByBarrier, Closed, Machine, Happening, Admit, Close, Fire, Start, Serve, Deliver, Send, Rules, part_at, must_fire, goes_on, calls_back, send_first, happens, in_flight, NoneIsIdle, NumbersOwner, NotIn, IsNew, StageUnbegun, StageAsks, StageHas, OfOwner, MayFireNow, Allowed, IsRun, after_all, taken, machine_from, machine_of, IsAtRest, IsWork}
 use Rattle.ax_execution.proofs.Handles.{Handles}
 use Rattle.ax_execution.proofs.Upto.{by_cases, part_of}
 use Rattle.ax_execution.proofs.Alone.{Alone, event_alone, start_alone, goes_as_alone}
@@ -426,12 +428,16 @@ module _ (r : Rules) (m : Machine) (o : IsOrderly r m) (rises : IsStrictlySorted
   event_orderly g p (Deliver k slot) h = back_orderly k (deliver slot (m.parts k)) h.0 (present r m o (StageHas slot) k h.1) (deliver_leaves k slot (m.parts k) h.1)
   event_orderly g p Send h = send_orderly g p m.unsent
 
-pub start_orderly : (r : Rules) (p : Program) → IsOrderly r (machine_start p)
+none_in_flight : (ks : List Key) → total ks (λ k. 0) ≡ 0
+none_in_flight [] = refl
+none_in_flight (k ∷ ks) = omega (arith, none_in_flight ks)
+
+pub start_orderly : (r : Rules) (p : Program) (from : Origin) → IsOrigin p from → IsOrderly r (machine_from from)
 unfolding IsAwake IsOrdered FrontFires
-start_orderly r p = record {
+start_orderly r p from fits = record {
   sound = record { awake = λ k. tt; ordered = λ k. (tt, inl refl); room = λ k h. absurd (none_some h) };
-  limit = omega arith;
-  absent = λ k h. record { owner = refl; waiting = refl; times = refl };
+  limit = omega (arith, none_in_flight from.keys);
+  absent = λ k h. record { owner = refl; waiting = refl; times = ap (λ (s : KeyState). s.times) (fits.others k h) };
 }
 
 -- a number that no context has
@@ -474,22 +480,22 @@ is_new r m o k = by_cases (list_any (bytes_eq k) m.keys)
     of : part_numbers (m.parts k) ≤ all → (NumbersOwner (suc all) (m.parts k).owner → ⊥) × NotIn (suc all) (m.parts k).waiting
     of h = (not_owner (suc all) (m.parts k).owner (omega arith), not_in (suc all) (m.parts k).waiting (omega arith))
 
-module _ (g : ℕ) (p : Program) (Good : Running → Type 0) (H : Handles p Good) where
-  pub keys_rise : (m : Machine) (done : List Event) → Alone g p Good H m done → IsStrictlySortedBy key_cmp m.keys
-  keys_rise m done a = subst (λ (ks : List Key). IsStrictlySortedBy key_cmp ks) (sym a.keys) (sync_rises g p done).keys
+module _ (g : ℕ) (p : Program) (Good : Running → Type 0) (H : Handles p Good) (from : Origin) (fits : IsOrigin p from) where
+  pub keys_rise : (m : Machine) (done : List Event) → Alone g p Good H from fits m done → IsStrictlySortedBy key_cmp m.keys
+  keys_rise m done a = subst (λ (ks : List Key). IsStrictlySortedBy key_cmp ks) (sym a.keys) (rises_from g p from fits done).keys
 
-  run_orderly : (r : Rules) (es : List Happening) (m : Machine) (done : List Event) → Alone g p Good H m done → IsOrderly r m → IsRun r g p es m → IsOrderly r (after_all g p es m)
+  run_orderly : (r : Rules) (es : List Happening) (m : Machine) (done : List Event) → Alone g p Good H from fits m done → IsOrderly r m → IsRun r g p es m → IsOrderly r (after_all g p es m)
   run_orderly r [] m done a o h = o
   run_orderly r (e ∷ es) m done a o h =
-      run_orderly r es (happens g p e m) (done ++ taken (e ∷ [])) (event_alone g p Good H r e m done a h.0) (event_orderly r m o (keys_rise m done a) g p e h.0) h.1
+      run_orderly r es (happens g p e m) (done ++ taken (e ∷ [])) (event_alone g p Good H from fits r e m done a h.0) (event_orderly r m o (keys_rise m done a) g p e h.0) h.1
 
-  pub always_orderly : (r : Rules) (es : List Happening) → IsRun r g p es (machine_start p) → IsOrderly r (machine_of g p es)
-  always_orderly r es h = run_orderly r es (machine_start p) [] (start_alone g p Good H) (start_orderly r p) h
+  pub always_orderly : (r : Rules) (es : List Happening) → IsRun r g p es (machine_from from) → IsOrderly r (machine_of g p from es)
+  always_orderly r es h = run_orderly r es (machine_from from) [] (start_alone g p Good H from fits) (start_orderly r p from fits) h
 
   -- where no event is allowed that takes nothing of the input, nothing is left
-  pub never_stuck : (r : Rules) (es : List Happening) → IsRun r g p es (machine_start p) → 0 < r.limit
-      → ((e : Happening) → IsWork e → Allowed r e (machine_of g p es) → ⊥) → IsAtRest (machine_of g p es)
+  pub never_stuck : (r : Rules) (es : List Happening) → IsRun r g p es (machine_from from) → 0 < r.limit
+      → ((e : Happening) → IsWork e → Allowed r e (machine_of g p from es) → ⊥) → IsAtRest (machine_of g p from es)
   never_stuck r es h some none =
-      let m : Machine = machine_of g p es in
+      let m : Machine = machine_of g p from es in
       let o : IsOrderly r m = always_orderly r es h in
-      at_rest r m o.sound some (fresh_number m) (is_new r m o) Good (goes_as_alone g p Good H r es h).good H.waits none
+      at_rest r m o.sound some (fresh_number m) (is_new r m o) Good (goes_as_alone g p Good H from fits r es h).good H.waits none

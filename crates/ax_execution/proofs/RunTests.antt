@@ -11,7 +11,8 @@ use Rattle.ax_machine.specs.Events.{Event}
 use Rattle.ax_machine.proofs.FiringLemmas.{among, key_is}
 use Rattle.ax_text.specs.Controls.{request_at}
 use Rattle.ax_execution.specs.Contexts.{Running, Stage, Unbegun, Begun, Context, Waiting, Row, Mark, Part, is_idle_with, is_idle}
-use Rattle.ax_execution.specs.Machine.{Closing, ByWatermark, ByBarrier, Closed, Machine, Happening, Admit, Close, Fire, Start, Serve, Deliver, Send, Rules, happens, IsWatermark, NoBarrier, IsOpen, in_flight, NoneIsIdle, OwnedLater, WaitLater, FirstIsFinished, NumbersOwner, NotIn, IsNew, StageUnbegun, StageAsks, StageHas, OfOwner, MayFireNow, Allowed, IsRun, taken, machine_start}
+use Rattle.ax_execution.specs.Machine.{Closing, ByWatermark, ByBarrier, Closed, Machine, Happening, Admit, Close, Fire, Start, Serve, Deliver, Send, Rules, happens, IsWatermark, NoBarrier, IsOpen, in_flight, NoneIsIdle, OwnedLater, WaitLater, FirstIsFinished, NumbersOwner, NotIn, IsNew, StageUnbegun, StageAsks, StageHas, OfOwner, MayFireNow, Allowed, IsRun, taken, machine_from}
+use Rattle.ax_execution.specs.Origins.{Origin, IsOrigin}
 use Rattle.ax_execution.proofs.Handles.{Handles}
 use Rattle.ax_execution.proofs.Alone.{Alone, event_alone, start_alone}
 use Rattle.ax_execution.proofs.Upto.{by_cases}
@@ -256,14 +257,14 @@ module _ (r : Rules) (m : Machine) (o : IsOrderly r m) where
   allowed_is (Deliver k slot) h = let a = and_parts (no_key m.must) _ h in (no_key_is m.must a.0, of_owner_is (StageHas slot) (has slot) (has_is slot) (m.parts k).owner a.1)
   allowed_is Send h = let a = and_parts (no_key m.must) _ h in (no_key_is m.must a.0, first_is m.unsent a.1)
 
-module _ (g : ℕ) (p : Program) (Good : Running → Type 0) (H : Handles p Good) where
-  runs_from : (r : Rules) (es : List Happening) (m : Machine) (done : List Event) → Alone g p Good H m done → IsOrderly r m → runs r g p es m ≡ true → IsRun r g p es m
+module _ (g : ℕ) (p : Program) (Good : Running → Type 0) (H : Handles p Good) (from : Origin) (fits : IsOrigin p from) where
+  runs_from : (r : Rules) (es : List Happening) (m : Machine) (done : List Event) → Alone g p Good H from fits m done → IsOrderly r m → runs r g p es m ≡ true → IsRun r g p es m
   runs_from r [] m done a o h = tt
   runs_from r (e ∷ es) m done a o h =
       let both : (allowed r e m ≡ true) × (runs r g p es (happens g p e m) ≡ true) = and_parts (allowed r e m) (runs r g p es (happens g p e m)) h in
       let now : Allowed r e m = allowed_is r m o e both.0 in
-      (now, runs_from r es (happens g p e m) (done ++ taken (e ∷ [])) (event_alone g p Good H r e m done a now) (event_orderly r m o (keys_rise g p Good H m done a) g p e now) both.1)
+      (now, runs_from r es (happens g p e m) (done ++ taken (e ∷ [])) (event_alone g p Good H from fits r e m done a now) (event_orderly r m o (keys_rise g p Good H from fits m done a) g p e now) both.1)
 
   -- events that pass the test are a run
-  pub is_run : (r : Rules) (es : List Happening) → runs r g p es (machine_start p) ≡ true → IsRun r g p es (machine_start p)
-  is_run r es h = runs_from r es (machine_start p) [] (start_alone g p Good H) (start_orderly r p) h
+  pub is_run : (r : Rules) (es : List Happening) → runs r g p es (machine_from from) ≡ true → IsRun r g p es (machine_from from)
+  is_run r es h = runs_from r es (machine_from from) [] (start_alone g p Good H from fits) (start_orderly r p from fits) h

@@ -1,5 +1,6 @@
 pub mod Accepted
 pub mod Groups
+pub mod Origins
 pub mod Sums
 pub mod Contexts
 pub mod Rest

@@ -13,10 +13,10 @@ use Rattle.ax_machine.specs.Events as event
 use Rattle.ax_machine.specs.Firings.{most_firings}
 use Rattle.ax_execution.specs.Sums.{total}
 use Rattle.ax_machine.specs.Blocks.{block_text}
-use Rattle.ax_machine.specs.Sync.{first_wm, parts_of}
+use Rattle.ax_machine.specs.Sync.{parts_of}
 use Rattle.ax_text.specs.Controls.{request_at}
 use Rattle.ax_execution.specs.Groups.{row_facts}
-use Rattle.ax_machine.specs.KeySync.{untold}
+use Rattle.ax_execution.specs.Origins.{Origin, said_from}
 use Rattle.ax_execution.specs.Contexts.{Stage, Unbegun, Begun, Context, Waiting, Row, Mark, Part, part_lines, contexts_in, is_idle}
 use Rattle.ax_execution.specs.Rest.{part_work}
 use Rattle.ax_execution.specs.Turns.{admit, mark, fire, start, serve, deliver}
@@ -223,20 +223,20 @@ taken (Serve k slot ∷ es) = taken es
 taken (Deliver k slot ∷ es) = taken es
 taken (Send ∷ es) = taken es
 
-abbrev pub machine_start : Program → Machine
-machine_start p = record {
-  wm = first_wm;
+abbrev pub machine_from : Origin → Machine
+machine_from from = record {
+  wm = from.wm;
   epoch = 0;
-  keys = [];
+  keys = from.keys;
   must = None;
   unsent = [];
   written = [];
-  parts = λ k. record { owner = None; waiting = []; said = untold p };
+  parts = λ k. record { owner = None; waiting = []; said = said_from from k };
 }
 
--- the machine behind these events
-abbrev pub machine_of : ℕ → Program → List Happening → Machine
-machine_of g p es = after_all g p es (machine_start p)
+-- the machine behind these events, from an origin
+abbrev pub machine_of : ℕ → Program → Origin → List Happening → Machine
+machine_of g p from es = after_all g p es (machine_from from)
 
 -- the work left: that of each key, and one for each marker to be sent
 abbrev pub work : Program → Machine → ℕ

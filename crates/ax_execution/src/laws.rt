@@ -2,55 +2,76 @@
 ghost use Rattle.std.specs.Prelude.{◌≡◌, ℕ, suc, ◌≤◌, ◌<◌, List, ◌++◌, Bool, false, Option, Some, None};
 ghost use Rattle.ax_text.specs.Programs.{Program};
 ghost use Rattle.ax_machine.specs.Entries.{Key, lines_of};
-ghost use Rattle.ax_machine.specs.Events.{Event};
-ghost use Rattle.ax_machine.specs.Sync.{sync};
-ghost use Rattle.ax_machine.specs.Lawful.{LawfulFor, LawfulSoFarFor};
+ghost use Rattle.ax_machine.specs.Events.{Event, without_skipped};
 ghost use Rattle.ax_machine.specs.KeySync.{key_sync};
+ghost use Rattle.ax_machine.specs.Sync.{sync};
+ghost use Rattle.ax_machine.specs.Lawful.{Lawful, LawfulSoFar};
 ghost use Rattle.ax_text.specs.Controls.{is_done};
 ghost use Rattle.ax_execution.specs.Accepted.{AreAccepted};
 ghost use Rattle.ax_execution.specs.Contexts.{Running, Begun, Context, rows_in};
+ghost use Rattle.ax_execution.specs.Origins.{Origin, IsOrigin, first, sync_from, key_sync_from, IsProjectedFrom};
 ghost use Rattle.ax_execution.specs.Rest.{settled, owed};
-ghost use Rattle.ax_execution.specs.Machine.{Happening, Rules, happens, Allowed, IsRun, taken, machine_start, machine_of, in_flight, work, IsAtRest, IsWork};
+ghost use Rattle.ax_execution.specs.Machine.{Happening, Rules, happens, Allowed, IsRun, taken, machine_from, machine_of, in_flight, work, IsAtRest, IsWork};
+
+/// Before the first event is an origin, and the plain threads from there are the plain threads.
+pub fn first_is_an_origin()
+    ensures origin { (p : Program) → IsOrigin p (first p) }
+    ensures plain { (m : ℕ) (p : Program) (events : List Event) → sync_from m p (first p) events ≡ sync m p events }
+    ensures key { (p : Program) (k : Key) (events : List Event) → key_sync_from p (first p) k events ≡ key_sync p k events }
+{}
+
+/// Wherever they begin, what the plain thread of all keys has and writes of a key is what the thread of that key alone has and says.
+pub fn keys_are_apart()
+    ensures { (m : ℕ) (p : Program) (from : Origin) (k : Key) (events : List Event) → IsOrigin p from → IsProjectedFrom m p from k events }
+{}
+
+/// A watermark that isn't greater than each one before changes nothing, and the machine takes none. So what the plain thread does
+/// with the events that were read is what it does with those that were taken.
+pub fn skipped_watermarks_change_nothing()
+    ensures none { (r : Rules) (g : ℕ) (p : Program) (from : Origin) (es : List Happening) → IsRun r g p es (machine_from from) → without_skipped from.wm (taken es) ≡ taken es }
+    ensures same { (g : ℕ) (p : Program) (from : Origin) (es : List Happening) (events : List Event) → without_skipped from.wm events ≡ taken es
+        → sync_from g p from (taken es) ≡ sync_from g p from events }
+{}
 
 /// Each key goes as alone, whatever events come: it comes to what its own plain thread has and has said for the events that were
 /// taken, and its lines that were written and then those that it owes are its lines of the plain thread. An event that takes
 /// nothing of the input changes nothing of what it comes to.
 pub fn key_goes_as_alone()
-    ensures settles { (r : Rules) (g : ℕ) (p : Program) (es : List Happening) (k : Key) → AreAccepted p → IsRun r g p es (machine_start p)
-        → settled p ((machine_of g p es).parts k) ≡ (key_sync p k (taken es)).said }
-    ensures lines { (r : Rules) (g : ℕ) (p : Program) (es : List Happening) (k : Key) → AreAccepted p → IsRun r g p es (machine_start p)
-        → lines_of k (machine_of g p es).written ++ owed p ((machine_of g p es).parts k) ≡ lines_of k (sync g p (taken es)).entries }
-    ensures kept { (r : Rules) (g : ℕ) (p : Program) (es : List Happening) (e : Happening) (k : Key) → AreAccepted p → IsRun r g p es (machine_start p) → IsWork e → Allowed r e (machine_of g p es)
-        → settled p ((happens g p e (machine_of g p es)).parts k) ≡ settled p ((machine_of g p es).parts k) }
+    ensures settles { (r : Rules) (g : ℕ) (p : Program) (from : Origin) (es : List Happening) (k : Key) → AreAccepted p → IsOrigin p from → IsRun r g p es (machine_from from)
+        → settled p ((machine_of g p from es).parts k) ≡ (key_sync_from p from k (taken es)).said }
+    ensures lines { (r : Rules) (g : ℕ) (p : Program) (from : Origin) (es : List Happening) (k : Key) → AreAccepted p → IsOrigin p from → IsRun r g p es (machine_from from)
+        → lines_of k (machine_of g p from es).written ++ owed p ((machine_of g p from es).parts k) ≡ lines_of k (sync_from g p from (taken es)).entries }
+    ensures kept { (r : Rules) (g : ℕ) (p : Program) (from : Origin) (es : List Happening) (e : Happening) (k : Key) → AreAccepted p → IsOrigin p from → IsRun r g p es (machine_from from) → IsWork e → Allowed r e (machine_of g p from es)
+        → settled p ((happens g p e (machine_of g p from es)).parts k) ≡ settled p ((machine_of g p from es).parts k) }
 {}
 
 /// Whatever events come, what was written may have been written so far for the events that were taken, in either mode,
 /// with the watermarks and the blocks; and where the machine is at rest, it is a whole list that may be written.
 pub fn written_is_lawful()
-    ensures so_far { (r : Rules) (g : ℕ) (p : Program) (es : List Happening) → AreAccepted p → IsRun r g p es (machine_start p)
-        → LawfulSoFarFor g r.serial p (taken es) (machine_of g p es).written }
-    ensures at_rest { (r : Rules) (g : ℕ) (p : Program) (es : List Happening) → AreAccepted p → IsRun r g p es (machine_start p) → IsAtRest (machine_of g p es)
-        → LawfulFor g r.serial p (taken es) (machine_of g p es).written }
+    ensures so_far { (r : Rules) (g : ℕ) (p : Program) (from : Origin) (es : List Happening) → AreAccepted p → IsOrigin p from → IsRun r g p es (machine_from from)
+        → LawfulSoFar r.serial (machine_of g p from es).written (sync_from g p from (taken es)).entries }
+    ensures at_rest { (r : Rules) (g : ℕ) (p : Program) (from : Origin) (es : List Happening) → AreAccepted p → IsOrigin p from → IsRun r g p es (machine_from from) → IsAtRest (machine_of g p from es)
+        → Lawful r.serial (machine_of g p from es).written (sync_from g p from (taken es)).entries }
 {}
 
 /// Never more contexts are in flight than the limit; rows wait only behind an owner, or behind a key that must fire;
 /// and a handler that has begun waits for an answer.
 pub fn one_owner_and_limit()
-    ensures limit { (r : Rules) (g : ℕ) (p : Program) (es : List Happening) → AreAccepted p → IsRun r g p es (machine_start p) → in_flight (machine_of g p es) ≤ r.limit }
-    ensures rows { (r : Rules) (g : ℕ) (p : Program) (es : List Happening) (k : Key) → AreAccepted p → IsRun r g p es (machine_start p) → (machine_of g p es).must ≡ None
-        → ((machine_of g p es).parts k).owner ≡ None → rows_in ((machine_of g p es).parts k).waiting ≡ 0 }
-    ensures awake { (r : Rules) (g : ℕ) (p : Program) (es : List Happening) (k : Key) (c : Context) (running : Running) → AreAccepted p → IsRun r g p es (machine_start p)
-        → ((machine_of g p es).parts k).owner ≡ Some c → c.stage ≡ Begun running → is_done running.control ≡ false }
+    ensures limit { (r : Rules) (g : ℕ) (p : Program) (from : Origin) (es : List Happening) → AreAccepted p → IsOrigin p from → IsRun r g p es (machine_from from) → in_flight (machine_of g p from es) ≤ r.limit }
+    ensures rows { (r : Rules) (g : ℕ) (p : Program) (from : Origin) (es : List Happening) (k : Key) → AreAccepted p → IsOrigin p from → IsRun r g p es (machine_from from) → (machine_of g p from es).must ≡ None
+        → ((machine_of g p from es).parts k).owner ≡ None → rows_in ((machine_of g p from es).parts k).waiting ≡ 0 }
+    ensures awake { (r : Rules) (g : ℕ) (p : Program) (from : Origin) (es : List Happening) (k : Key) (c : Context) (running : Running) → AreAccepted p → IsOrigin p from → IsRun r g p es (machine_from from)
+        → ((machine_of g p from es).parts k).owner ≡ Some c → c.stage ≡ Begun running → is_done running.control ≡ false }
 {}
 
 /// With room for one context the machine is never stuck: where no event is allowed that takes nothing of the input, it is at rest.
 pub fn never_stuck()
-    ensures { (r : Rules) (g : ℕ) (p : Program) (es : List Happening) → AreAccepted p → IsRun r g p es (machine_start p) → 0 < r.limit
-        → ((e : Happening) → IsWork e → Allowed r e (machine_of g p es) → ⊥) → IsAtRest (machine_of g p es) }
+    ensures { (r : Rules) (g : ℕ) (p : Program) (from : Origin) (es : List Happening) → AreAccepted p → IsOrigin p from → IsRun r g p es (machine_from from) → 0 < r.limit
+        → ((e : Happening) → IsWork e → Allowed r e (machine_of g p from es) → ⊥) → IsAtRest (machine_of g p from es) }
 {}
 
 /// Each event that takes nothing of the input takes exactly one from the work left.
 pub fn work_falls()
-    ensures { (r : Rules) (g : ℕ) (p : Program) (es : List Happening) (e : Happening) → AreAccepted p → IsRun r g p es (machine_start p) → IsWork e → Allowed r e (machine_of g p es)
-        → suc (work p (happens g p e (machine_of g p es))) ≡ work p (machine_of g p es) }
+    ensures { (r : Rules) (g : ℕ) (p : Program) (from : Origin) (es : List Happening) (e : Happening) → AreAccepted p → IsOrigin p from → IsRun r g p es (machine_from from) → IsWork e → Allowed r e (machine_of g p from es)
+        → suc (work p (happens g p e (machine_of g p from es))) ≡ work p (machine_of g p from es) }
 {}

@@ -4,10 +4,10 @@ use Rattle.ax_execution.specs.Machine.{machine_of, taken}
 use Rattle.ax_execution.proofs.laws.key_goes_as_alone.Goals as goal
 
 pub returns-clause-settles : goal.returns-clause-settles
-returns-clause-settles c r g p es k accepted h = (goes_as_alone g p Good (handles p accepted) r es h).settles k
+returns-clause-settles c r g p from es k accepted fits h = (goes_as_alone g p Good (handles p accepted) from fits r es h).settles k
 
 pub returns-clause-lines : goal.returns-clause-lines
-returns-clause-lines c r g p es k accepted h = written_then_owed g p Good (handles p accepted) (machine_of g p es) (taken es) (goes_as_alone g p Good (handles p accepted) r es h) k
+returns-clause-lines c r g p from es k accepted fits h = written_then_owed g p Good (handles p accepted) from fits (machine_of g p from es) (taken es) (goes_as_alone g p Good (handles p accepted) from fits r es h) k
 
 pub returns-clause-kept : goal.returns-clause-kept
-returns-clause-kept c r g p es e k accepted run i h = work_keeps g p Good (handles p accepted) r e (machine_of g p es) (taken es) (goes_as_alone g p Good (handles p accepted) r es run) i h k
+returns-clause-kept c r g p from es e k accepted fits run i h = work_keeps g p Good (handles p accepted) from fits r e (machine_of g p from es) (taken es) (goes_as_alone g p Good (handles p accepted) from fits r es run) i h k

@@ -7,17 +7,17 @@ use Rattle.ax_execution.proofs.Stuck.{IsOrdered, StageWakes, IsAwake, none_some}
 use Rattle.ax_execution.proofs.laws.one_owner_and_limit.Goals as goal
 
 pub returns-clause-limit : goal.returns-clause-limit
-returns-clause-limit c r g p es accepted h = (always_orderly g p Good (handles p accepted) r es h).limit
+returns-clause-limit c r g p from es accepted fits h = (always_orderly g p Good (handles p accepted) from fits r es h).limit
 
 pub returns-clause-rows : goal.returns-clause-rows
 unfolding IsOrdered
-returns-clause-rows c r g p es k accepted h none free = of (subst (λ (o : Option Context). IsOrdered m.must k o (m.parts k).waiting (m.parts k).said.state.times) free (order.sound.ordered k)).1
+returns-clause-rows c r g p from es k accepted fits h none free = of (subst (λ (o : Option Context). IsOrdered m.must k o (m.parts k).waiting (m.parts k).said.state.times) free (order.sound.ordered k)).1
   where
     m : Machine
-    m = machine_of g p es
+    m = machine_of g p from es
 
     order : IsOrderly r m
-    order = always_orderly g p Good (handles p accepted) r es h
+    order = always_orderly g p Good (handles p accepted) from fits r es h
 
     of : (rows_in (m.parts k).waiting ≡ 0) ⊎ (m.must ≡ Some k) → rows_in (m.parts k).waiting ≡ 0
     of (inl e) = e
@@ -25,10 +25,10 @@ returns-clause-rows c r g p es k accepted h none free = of (subst (λ (o : Optio
 
 pub returns-clause-awake : goal.returns-clause-awake
 unfolding IsAwake StageWakes
-returns-clause-awake c r g p es k it running accepted h owner stage = subst StageWakes stage awake
+returns-clause-awake c r g p from es k it running accepted fits h owner stage = subst StageWakes stage awake
   where
     m : Machine
-    m = machine_of g p es
+    m = machine_of g p from es
 
     awake : StageWakes it.stage
-    awake = subst IsAwake owner ((always_orderly g p Good (handles p accepted) r es h).sound.awake k)
+    awake = subst IsAwake owner ((always_orderly g p Good (handles p accepted) from fits r es h).sound.awake k)
