@@ -21,7 +21,8 @@ use Rattle.ax_machine.specs.KeySync.{Said, ran, key_fires, KeyPlain, key_step, k
 use Rattle.ax_execution.specs.Contexts.{Running, Part, part_lines}
 use Rattle.ax_execution.specs.Rest.{settled, owed}
 use Rattle.ax_execution.specs.Turns.{admit, mark, fire, start, serve, deliver}
-use Rattle.ax_execution.specs.Machine.{ByWatermark, ByBarrier, Closed, Machine, Happening, Admit, Close, Fire, Start, Serve, Deliver, Send, Rules, part_at, must_fire, goes_on, marker_of, send_first, happens, Allowed, IsRun, after_all, taken, machine_from, machine_of, IsWork}
+use Rattle.ax_execution.specs.Machine.{ByWatermark, ByBarrier, Closed, Machine, Happening, Admit, Close, Fire, Start, Serve, Deliver, Send, Rules, part_at, must_fire, goes_on, marker_of, send_first, happens, after_all, taken, machine_from, machine_of, IsWork}
+use Rattle.ax_execution.specs.Allowed.{Allowed, IsRun}
 use Rattle.ax_execution.specs.Origins.{Origin, IsOrigin, plain_from, sync_from, said_from, key_sync_from}
 use Rattle.ax_execution.proofs.Projected.{projected_from}
 use Rattle.ax_execution.proofs.Handles.{Handles}

@@ -23,7 +23,8 @@ use Rattle.ax_machine.specs.KeySync.{Said}
 use Rattle.ax_execution.specs.Contexts.{Running, running_group, Stage, Unbegun, Begun, stage_group, Context, new_context, Waiting, Row, Mark, Part, part_groups, rows_in, is_due, is_idle_with, is_idle}
 use Rattle.ax_execution.specs.Rest.{served_at, stage_work, owner_work, part_work}
 use Rattle.ax_execution.specs.Turns.{handed, timed, closed_with, left_by, staged, called_back, no_answers, begins, start_stage, start_owner, start, answered, serve_request, serve_stage, serve_owner, serve, gives, give_answer, deliver_stage, deliver_owner, deliver, fire_due, fire_front, fire}
-use Rattle.ax_execution.specs.Machine.{Closed, Machine, Happening, Admit, Close, Fire, Start, Serve, Deliver, Send, Rules, part_at, must_fire, goes_on, send_first, happens, FirstIsFinished, StageUnbegun, StageAsks, StageHas, OfOwner, Allowed, IsRun, taken, machine_from, machine_of, IsWork, work}
+use Rattle.ax_execution.specs.Machine.{Closed, Machine, Happening, Admit, Close, Fire, Start, Serve, Deliver, Send, Rules, part_at, must_fire, goes_on, send_first, happens, taken, machine_from, machine_of, IsWork, work}
+use Rattle.ax_execution.specs.Allowed.{FirstIsFinished, StageUnbegun, StageAsks, StageHas, OfOwner, Allowed, IsRun}
 use Rattle.ax_execution.specs.Origins.{Origin, IsOrigin}
 use Rattle.ax_execution.proofs.Handles.{Handles, silenced}
 use Rattle.ax_execution.proofs.Handles as handles

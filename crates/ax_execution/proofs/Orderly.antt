@@ -27,7 +27,8 @@ use Rattle.ax_execution.specs.Groups.{row_facts}
 use Rattle.ax_machine.specs.KeySync.{Said}
 use Rattle.ax_execution.specs.Contexts.{Running, running_group, Stage, Unbegun, Begun, Context, new_context, Waiting, Row, Mark, Part, contexts_in, owners, rows_in, is_due, may_fire, is_idle_with, is_idle}
 use Rattle.ax_execution.specs.Turns.{handed, timed, closed_with, left_by, staged, called_back, no_answers, begins, start_stage, start_owner, start, serve_request, serve_stage, serve_owner, serve, gives, give_answer, deliver_stage, deliver_owner, deliver, fire_due, fire_front, fire, admit_at, admit, mark_at, mark}
-use Rattle.ax_execution.specs.Machine.{ByWatermark, ByBarrier, Closed, Machine, Happening, Admit, Close, Fire, Start, Serve, Deliver, Send, Rules, part_at, must_fire, goes_on, calls_back, send_first, happens, in_flight, NoneIsIdle, NumbersOwner, NotIn, IsNew, StageUnbegun, StageAsks, StageHas, OfOwner, MayFireNow, Allowed, IsRun, after_all, taken, machine_from, machine_of, IsAtRest, IsWork}
+use Rattle.ax_execution.specs.Machine.{ByWatermark, ByBarrier, Closed, Machine, Happening, Admit, Close, Fire, Start, Serve, Deliver, Send, Rules, part_at, must_fire, goes_on, calls_back, send_first, happens, in_flight, after_all, taken, machine_from, machine_of, IsAtRest, IsWork}
+use Rattle.ax_execution.specs.Allowed.{NoneIsIdle, NumbersOwner, NotIn, IsNew, StageUnbegun, StageAsks, StageHas, OfOwner, MayFireNow, Allowed, IsRun}
 use Rattle.ax_execution.proofs.Handles.{Handles}
 use Rattle.ax_execution.proofs.Upto.{by_cases, part_of}
 use Rattle.ax_execution.proofs.Alone.{Alone, event_alone, start_alone, goes_as_alone}
@@ -201,15 +202,16 @@ rows_mark [] e w more = refl
 rows_mark (Row i g h ∷ is) e w more = ap (λ (n : ℕ). 1 + n) (rows_mark is e w more)
 rows_mark (Mark g v m ∷ is) e w more = rows_mark is e w more
 
-admit_of : (must : Option Key) (k : Key) (n e : ℕ) (f : Facts) (o : Option Context) (is : List Waiting) (s : Said) → is_idle_with o is ≡ false → IsAwake o
+admit_of : (must : Option Key) (k : Key) (n e : ℕ) (f : Facts) (o : Option Context) (is : List Waiting) (s : Said) → is_idle_with o is ≡ false → IsAwake o → IsOrdered must k o is s.state.times
     → Grown must k (part_of o is s) (admit_at n e f o is s)
-unfolding IsAwake StageWakes IsOrdered
-admit_of must k n e f None [] s i w = record { awake = tt; ordered = tt; count = omega arith }
-admit_of must k n e f None (x ∷ is) s i w = absurd (true_false (sym i))
-admit_of must k n e f (Some c) is s i w = record { awake = w; ordered = tt; count = (let x : rows_in (is ++ Row n e f ∷ []) ≡ suc (rows_in is) = rows_row is n e f in omega arith) }
+unfolding IsAwake StageWakes IsOrdered FrontFires
+admit_of must k n e f None [] s i w d = record { awake = tt; ordered = tt; count = omega arith }
+admit_of must k n e f None (Row j g h ∷ is) s i w d = absurd d.0
+admit_of must k n e f None (Mark g v more ∷ is) s i w d = absurd (true_false (sym i))
+admit_of must k n e f (Some c) is s i w d = record { awake = w; ordered = tt; count = (let x : rows_in (is ++ Row n e f ∷ []) ≡ suc (rows_in is) = rows_row is n e f in omega arith) }
 
-admit_grown : (must : Option Key) (k : Key) (n e : ℕ) (f : Facts) (q : Part) → is_idle q ≡ false → IsAwake q.owner → Grown must k q (admit n e f q)
-admit_grown must k n e f q i w = admit_of must k n e f q.owner q.waiting q.said i w
+admit_grown : (must : Option Key) (k : Key) (n e : ℕ) (f : Facts) (q : Part) → is_idle q ≡ false → IsAwake q.owner → IsOrdered must k q.owner q.waiting q.said.state.times → Grown must k q (admit n e f q)
+admit_grown must k n e f q i w d = admit_of must k n e f q.owner q.waiting q.said i w d
 
 -- a mark comes
 
@@ -390,7 +392,7 @@ module _ (r : Rules) (m : Machine) (o : IsOrderly r m) (rises : IsStrictlySorted
       q = admit n m.epoch (row_facts m.wm time values) (m.parts k)
 
       l : Grown m.must k (m.parts k) q
-      l = admit_grown m.must k n m.epoch (row_facts m.wm time values) (m.parts k) (idle k) (o.sound.awake k)
+      l = admit_grown m.must k n m.epoch (row_facts m.wm time values) (m.parts k) (idle k) (o.sound.awake k) (o.sound.ordered k)
 
   -- Close
   mark_orderly : (g : ℕ) (p : Program) (w : ℤ) → m.must ≡ None → IsOrderly r (happens g p (Close (ByWatermark w)) m)

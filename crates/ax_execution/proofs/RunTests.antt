@@ -1,6 +1,6 @@
 -- A test of whether events are a run.
 use Rattle.std.proofs.Common.{◌≡◌, ℕ, int_lt, List, [], ◌∷◌, ◌++◌, Bool, true, false, ◌&&◌, not, nat_eq, nat_lt, Option, Some, None, refl, sym, ap, ap₂, ◌∙◌, subst, ⊎_elim}
-use Rattle.std.proofs.lemmas.Bool.{and_parts, ltb-true, eqb-false}
+use Rattle.std.proofs.lemmas.Bool.{and_parts, and_from, ltb-true, lt-ltb, eqb-true, eqb-false}
 use Rattle.std.specs.Str.{bytes_eq}
 use Rattle.std.specs.List.{list_any}
 use Rattle.ax_text.specs.Programs.{Program}
@@ -8,112 +8,17 @@ use Rattle.ax_text.specs.declared.vocabulary.Request.{Request}
 use Rattle.ax_text.specs.declared.vocabulary.Answer.{Answer}
 use Rattle.ax_machine.specs.Entries.{Key}
 use Rattle.ax_machine.specs.Events.{Event}
-use Rattle.ax_machine.proofs.FiringLemmas.{among, key_is}
+use Rattle.ax_machine.proofs.FiringLemmas.{among, key_is, same_key}
 use Rattle.ax_text.specs.Controls.{request_at}
 use Rattle.ax_execution.specs.Contexts.{Running, Stage, Unbegun, Begun, Context, Waiting, Row, Mark, Part, is_idle_with, is_idle}
-use Rattle.ax_execution.specs.Machine.{Closing, ByWatermark, ByBarrier, Closed, Machine, Happening, Admit, Close, Fire, Start, Serve, Deliver, Send, Rules, happens, IsWatermark, NoBarrier, IsOpen, in_flight, NoneIsIdle, OwnedLater, WaitLater, FirstIsFinished, NumbersOwner, NotIn, IsNew, StageUnbegun, StageAsks, StageHas, OfOwner, MayFireNow, Allowed, IsRun, taken, machine_from}
+use Rattle.ax_execution.specs.Machine.{Closing, ByWatermark, ByBarrier, Closed, Machine, Happening, Admit, Close, Fire, Start, Serve, Deliver, Send, Rules, happens, in_flight, taken, machine_from}
+use Rattle.ax_execution.specs.Allowed.{IsWatermark, NoBarrier, IsOpen, NoneIsIdle, OwnedLater, WaitLater, FirstIsFinished, NumbersOwner, NotIn, IsNew, StageUnbegun, StageAsks, StageHas, OfOwner, MayFireNow, Allowed, IsRun}
+use Rattle.ax_execution.specs.Tests.{no_key, every, is_watermark, no_barrier, nothing_unsent, owner_new, waiting_new, part_new, owned_later, wait_later, part_later, none_first, unbegun, some_request, no_answer, asks, has, of_owner, may_fire_now, is_open, not_idle, allowed, runs}
 use Rattle.ax_execution.specs.Origins.{Origin, IsOrigin}
 use Rattle.ax_execution.proofs.Handles.{Handles}
 use Rattle.ax_execution.proofs.Alone.{Alone, event_alone, start_alone}
 use Rattle.ax_execution.proofs.Upto.{by_cases}
 use Rattle.ax_execution.proofs.Orderly.{IsFree, IsOrderly, keys_rise, event_orderly, start_orderly}
-
-abbrev no_key : Option Key → Bool
-no_key None = true
-no_key (Some k) = false
-
-abbrev every : (Part → Bool) → (Key → Part) → List Key → Bool
-every t parts [] = true
-every t parts (k ∷ ks) = t (parts k) && every t parts ks
-
-abbrev is_watermark : Closing → Bool
-is_watermark (ByWatermark time) = true
-is_watermark (ByBarrier id) = false
-
-abbrev no_barrier : List Closed → Bool
-no_barrier [] = true
-no_barrier (c ∷ cs) = is_watermark c.closing && no_barrier cs
-
-abbrev nothing_unsent : Bool → List Closed → Bool
-nothing_unsent false cs = true
-nothing_unsent true [] = true
-nothing_unsent true (c ∷ cs) = false
-
-abbrev owner_new : ℕ → Option Context → Bool
-owner_new n None = true
-owner_new n (Some c) = not (nat_eq c.number n)
-
-abbrev waiting_new : ℕ → List Waiting → Bool
-waiting_new n [] = true
-waiting_new n (Row i e f ∷ is) = not (nat_eq i n) && waiting_new n is
-waiting_new n (Mark e w more ∷ is) = waiting_new n is
-
-abbrev part_new : ℕ → Part → Bool
-part_new n q = owner_new n q.owner && waiting_new n q.waiting
-
-abbrev owned_later : ℕ → Option Context → Bool
-owned_later e None = true
-owned_later e (Some c) = nat_lt e c.epoch
-
-abbrev wait_later : ℕ → List Waiting → Bool
-wait_later e [] = true
-wait_later e (Row n f facts ∷ is) = nat_lt e f && wait_later e is
-wait_later e (Mark f w more ∷ is) = nat_lt e f && wait_later e is
-
-abbrev part_later : ℕ → Part → Bool
-part_later e q = owned_later e q.owner && wait_later e q.waiting
-
-abbrev none_first : List Closed → Machine → Bool
-none_first [] m = false
-none_first (c ∷ cs) m = every (part_later c.epoch) m.parts m.keys
-
-abbrev unbegun : Stage → Bool
-unbegun Unbegun = true
-unbegun (Begun r) = false
-
-abbrev some_request : Option Request → Bool
-some_request None = false
-some_request (Some q) = true
-
-abbrev no_answer : Option Answer → Bool
-no_answer None = true
-no_answer (Some a) = false
-
-abbrev asks : ℕ → Stage → Bool
-asks slot Unbegun = false
-asks slot (Begun r) = some_request (request_at r.control slot) && no_answer (r.answers slot)
-
-abbrev has : ℕ → Stage → Bool
-has slot Unbegun = false
-has slot (Begun r) = not (no_answer (r.answers slot))
-
-abbrev of_owner : (Stage → Bool) → Option Context → Bool
-of_owner t None = false
-of_owner t (Some c) = t c.stage
-
-abbrev may_fire_now : Key → Option Key → Bool
-may_fire_now k None = true
-may_fire_now k (Some j) = bytes_eq j k
-
-abbrev is_open : Rules → Machine → Bool
-is_open r m = no_barrier m.unsent && nothing_unsent r.serial m.unsent
-
-abbrev not_idle : Part → Bool
-not_idle q = not (is_idle q)
-
-abbrev allowed : Rules → Happening → Machine → Bool
-allowed r (Admit n k time values) m = no_key m.must && (is_open r m && (nat_lt (in_flight m) r.limit && (every not_idle m.parts m.keys && every (part_new n) m.parts m.keys)))
-allowed r (Close (ByWatermark w)) m = no_key m.must && (is_open r m && int_lt m.wm w)
-allowed r (Close (ByBarrier id)) m = no_key m.must && is_open r m
-allowed r (Fire n k) m = may_fire_now k m.must && (is_idle (m.parts k) && (nat_lt (in_flight m) r.limit && every (part_new n) m.parts m.keys))
-allowed r (Start k) m = no_key m.must && of_owner unbegun (m.parts k).owner
-allowed r (Serve k slot) m = no_key m.must && of_owner (asks slot) (m.parts k).owner
-allowed r (Deliver k slot) m = no_key m.must && of_owner (has slot) (m.parts k).owner
-allowed r Send m = no_key m.must && none_first m.unsent m
-
-abbrev pub runs : Rules → ℕ → Program → List Happening → Machine → Bool
-runs r g p [] m = true
-runs r g p (e ∷ es) m = allowed r e m && runs r g p es (happens g p e m)
 
 -- what the tests say
 
@@ -230,6 +135,95 @@ has_is : (slot : ℕ) (st : Stage) → has slot st ≡ true → StageHas slot st
 has_is slot Unbegun h = absurd (false_true h)
 has_is slot (Begun r) h = answer_is (r.answers slot) h
 
+-- and what is so passes the tests
+
+and_join : {x y : Bool} → x ≡ true → y ≡ true → (x && y) ≡ true
+and_join {x} {y} p q = and_from x y p q
+
+no_key_so : (o : Option Key) → o ≡ None → no_key o ≡ true
+no_key_so o e = ap no_key e
+
+every_so : (t : Part → Bool) (parts : Key → Part) (ks : List Key) → ((k : Key) → t (parts k) ≡ true) → every t parts ks ≡ true
+every_so t parts [] h = refl
+every_so t parts (k ∷ ks) h = and_join (h k) (every_so t parts ks h)
+
+not_so : (b : Bool) → b ≡ false → not b ≡ true
+not_so b e = ap not e
+
+differs_so : (i n : ℕ) → (i ≡ n → ⊥) → not (nat_eq i n) ≡ true
+differs_so i n h = not_so (nat_eq i n) (by_cases (nat_eq i n) (λ x. absurd (h (eqb-true i n x))) (λ x. x))
+
+owner_new_so : (n : ℕ) (o : Option Context) → (NumbersOwner n o → ⊥) → owner_new n o ≡ true
+owner_new_so n None h = refl
+owner_new_so n (Some c) h = differs_so c.number n h
+
+waiting_new_so : (n : ℕ) (is : List Waiting) → NotIn n is → waiting_new n is ≡ true
+waiting_new_so n [] h = refl
+waiting_new_so n (Row i e f ∷ is) h = and_join (differs_so i n h.0) (waiting_new_so n is h.1)
+waiting_new_so n (Mark e w more ∷ is) h = waiting_new_so n is h
+
+new_so : (n : ℕ) (m : Machine) → IsNew n m → every (part_new n) m.parts m.keys ≡ true
+new_so n m h = every_so (part_new n) m.parts m.keys (λ k. and_join (owner_new_so n (m.parts k).owner (h k).0) (waiting_new_so n (m.parts k).waiting (h k).1))
+
+owned_later_so : (e : ℕ) (o : Option Context) → OwnedLater e o → owned_later e o ≡ true
+owned_later_so e None h = refl
+owned_later_so e (Some c) h = lt-ltb e c.epoch h
+
+wait_later_so : (e : ℕ) (is : List Waiting) → WaitLater e is → wait_later e is ≡ true
+wait_later_so e [] h = refl
+wait_later_so e (Row n f facts ∷ is) h = and_join (lt-ltb e f h.0) (wait_later_so e is h.1)
+wait_later_so e (Mark f w more ∷ is) h = and_join (lt-ltb e f h.0) (wait_later_so e is h.1)
+
+first_so : (cs : List Closed) (m : Machine) → FirstIsFinished cs m → none_first cs m ≡ true
+first_so [] m h = absurd h
+first_so (c ∷ cs) m h = every_so (part_later c.epoch) m.parts m.keys (λ k. and_join (owned_later_so c.epoch (m.parts k).owner (h k).0) (wait_later_so c.epoch (m.parts k).waiting (h k).1))
+
+no_barrier_so : (cs : List Closed) → NoBarrier cs → no_barrier cs ≡ true
+no_barrier_so [] h = refl
+no_barrier_so (c ∷ cs) h = and_join (of c.closing h.0) (no_barrier_so cs h.1)
+  where
+    of : (x : Closing) → IsWatermark x → is_watermark x ≡ true
+    of (ByWatermark time) i = refl
+    of (ByBarrier id) i = absurd i
+
+nothing_unsent_so : (serial : Bool) (cs : List Closed) → (serial ≡ true → cs ≡ []) → nothing_unsent serial cs ≡ true
+nothing_unsent_so false cs h = refl
+nothing_unsent_so true cs h = ap (nothing_unsent true) (h refl)
+
+is_open_so : (r : Rules) (m : Machine) → IsOpen r m → is_open r m ≡ true
+is_open_so r m h = and_join (no_barrier_so m.unsent h.0) (nothing_unsent_so r.serial m.unsent h.1)
+
+may_fire_so : (k : Key) (o : Option Key) → MayFireNow k o → may_fire_now k o ≡ true
+may_fire_so k None h = refl
+may_fire_so k (Some j) h = ap (λ (i : Key). bytes_eq j i) (sym h) ∙ same_key j
+
+of_owner_so : (P : Stage → Type 0) (t : Stage → Bool) → ((st : Stage) → P st → t st ≡ true) → (o : Option Context) → OfOwner P o → of_owner t o ≡ true
+of_owner_so P t f None h = absurd h
+of_owner_so P t f (Some c) h = f c.stage h
+
+unbegun_so : (st : Stage) → StageUnbegun st → unbegun st ≡ true
+unbegun_so Unbegun h = refl
+unbegun_so (Begun r) h = absurd h
+
+asks_so : (slot : ℕ) (st : Stage) → StageAsks slot st → asks slot st ≡ true
+asks_so slot Unbegun h = absurd h
+asks_so slot (Begun r) h = and_join (ap some_request h.0.1) (ap no_answer h.1)
+
+has_so : (slot : ℕ) (st : Stage) → StageHas slot st → has slot st ≡ true
+has_so slot Unbegun h = absurd h
+has_so slot (Begun r) h = ap (λ (o : Option Answer). not (no_answer o)) h.1
+
+pub allowed_so : (r : Rules) (m : Machine) (e : Happening) → Allowed r e m → allowed r e m ≡ true
+allowed_so r m (Admit n k time values) h = and_join (no_key_so m.must h.0) (and_join (is_open_so r m h.1) (and_join (lt-ltb (in_flight m) r.limit h.2)
+    (and_join (every_so not_idle m.parts m.keys (λ j. not_so (is_idle (m.parts j)) (h.3 j))) (new_so n m h.4))))
+allowed_so r m (Close (ByWatermark w)) h = and_join (no_key_so m.must h.0) (and_join (is_open_so r m h.1) h.2)
+allowed_so r m (Close (ByBarrier id)) h = and_join (no_key_so m.must h.0) (is_open_so r m h.1)
+allowed_so r m (Fire n k) h = and_join (may_fire_so k m.must h.0) (and_join h.1 (and_join (lt-ltb (in_flight m) r.limit h.2) (new_so n m h.3)))
+allowed_so r m (Start k) h = and_join (no_key_so m.must h.0) (of_owner_so StageUnbegun unbegun unbegun_so (m.parts k).owner h.1)
+allowed_so r m (Serve k slot) h = and_join (no_key_so m.must h.0) (of_owner_so (StageAsks slot) (asks slot) (asks_so slot) (m.parts k).owner h.1)
+allowed_so r m (Deliver k slot) h = and_join (no_key_so m.must h.0) (of_owner_so (StageHas slot) (has slot) (has_so slot) (m.parts k).owner h.1)
+allowed_so r m Send h = and_join (no_key_so m.must h.0) (first_so m.unsent m h.1)
+
 module _ (r : Rules) (m : Machine) (o : IsOrderly r m) where
   new_is : (n : ℕ) → every (part_new n) m.parts m.keys ≡ true → IsNew n m
   new_is n h k = for_all (PartNew n) (part_new n) (part_new_is n) (free_new n) r m o h k
@@ -241,7 +235,7 @@ module _ (r : Rules) (m : Machine) (o : IsOrderly r m) where
   not_idle_is : every not_idle m.parts m.keys ≡ true → NoneIsIdle m
   not_idle_is h k = for_all (λ q. is_idle q ≡ false) not_idle (λ q x. not_is (is_idle q) x) (λ q f. ap₂ is_idle_with f.owner f.waiting) r m o h k
 
-  allowed_is : (e : Happening) → allowed r e m ≡ true → Allowed r e m
+  pub allowed_is : (e : Happening) → allowed r e m ≡ true → Allowed r e m
   allowed_is (Admit n k time values) h =
       let a = and_parts (no_key m.must) _ h in let b = and_parts (is_open r m) _ a.1 in let c = and_parts (nat_lt (in_flight m) r.limit) _ b.1 in
       let d = and_parts (every not_idle m.parts m.keys) _ c.1 in

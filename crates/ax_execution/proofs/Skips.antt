@@ -4,7 +4,8 @@ use Rattle.std.proofs.lemmas.Bool.{cond-true}
 use Rattle.ax_text.specs.Programs.{Program}
 use Rattle.ax_machine.specs.Events.{Event, without_skipped}
 use Rattle.ax_machine.specs.Events as event
-use Rattle.ax_execution.specs.Machine.{ByWatermark, ByBarrier, Closed, Machine, Happening, Admit, Close, Fire, Start, Serve, Deliver, Send, Rules, send_first, happens, IsRun, taken}
+use Rattle.ax_execution.specs.Machine.{ByWatermark, ByBarrier, Closed, Machine, Happening, Admit, Close, Fire, Start, Serve, Deliver, Send, Rules, send_first, happens, taken}
+use Rattle.ax_execution.specs.Allowed.{IsRun}
 
 send_wm : (g : ℕ) (p : Program) (cs : List Closed) (m : Machine) → (send_first g p cs m).wm ≡ m.wm
 send_wm g p [] m = refl

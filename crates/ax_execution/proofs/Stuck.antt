@@ -10,7 +10,8 @@ use Rattle.ax_text.specs.Controls.{is_done, request_at}
 use Rattle.ax_machine.specs.KeySync.{Said}
 use Rattle.ax_execution.specs.Contexts.{Running, running_group, Stage, Unbegun, Begun, Context, Waiting, Row, Mark, Part, contexts_in, owners, rows_in, may_fire, is_idle_with, is_idle}
 use Rattle.ax_execution.specs.Turns.{handed, called_back, closed_with, staged}
-use Rattle.ax_execution.specs.Machine.{Machine, Closed, Happening, Fire, Start, Serve, Deliver, Send, Rules, must_fire, in_flight, IsNew, OwnedLater, WaitLater, FirstIsFinished, StageUnbegun, StageAsks, StageHas, OfOwner, MayFireNow, Allowed, IsAtRest, IsWork}
+use Rattle.ax_execution.specs.Machine.{Machine, Closed, Happening, Fire, Start, Serve, Deliver, Send, Rules, must_fire, in_flight, IsAtRest, IsWork}
+use Rattle.ax_execution.specs.Allowed.{IsNew, OwnedLater, WaitLater, FirstIsFinished, StageUnbegun, StageAsks, StageHas, OfOwner, MayFireNow, Allowed}
 use Rattle.ax_execution.proofs.Upto.{StageGood, OwnerGood}
 
 pub by_cases : {A : Type 0} (b : Bool) → (b ≡ true → A) → (b ≡ false → A) → A
@@ -152,7 +153,8 @@ module _ (r : Rules) (m : Machine) (sound : IsSound r m) (some_room : 0 < r.limi
 
   waiting_none : (k : Key) (is : List Waiting) → (m.parts k).waiting ≡ is → (m.parts k).waiting ≡ []
   waiting_none k [] e = e
-  waiting_none k (i ∷ is) e = absurd (none (Fire number k) tt (subst (MayFireNow k) (sym must_none) tt, idle, room, new))
+  waiting_none k (Row i f facts ∷ is) e = let a : rows_in (m.parts k).waiting ≡ 1 + rows_in is = ap rows_in e in let b : rows_in (m.parts k).waiting ≡ 0 = no_rows k in absurd (omega arith)
+  waiting_none k (Mark f w more ∷ is) e = absurd (none (Fire number k) tt (subst (MayFireNow k) (sym must_none) tt, idle, room, new))
     where
       idle : is_idle (m.parts k) ≡ true
       idle = ap₂ is_idle_with (owners_none k) e

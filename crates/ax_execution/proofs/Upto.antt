@@ -18,7 +18,7 @@ use Rattle.ax_machine.specs.KeySync.{Said, ran, fire_first, key_fires}
 use Rattle.ax_execution.specs.Contexts.{Running, running_group, Stage, Unbegun, Begun, stage_group, Context, new_context, Waiting, Row, Mark, Part, owner_groups, part_lines, is_due, may_fire}
 use Rattle.ax_execution.specs.Rest.{rest_running, rest_stage, rest_owner, rest_items, settled}
 use Rattle.ax_execution.specs.Turns.{handed, timed, closed_with, left_by, staged, called_back, no_answers, begins, start_stage, start_owner, start, answered, applied, serve_request, serve_stage, serve_owner, serve, gives, give_answer, deliver_stage, deliver_owner, deliver, fire_due, fire_front, fire, admit_at, admit, mark_at, mark}
-use Rattle.ax_execution.specs.Machine.{StageAsks, OfOwner, OwnedLater, WaitLater}
+use Rattle.ax_execution.specs.Allowed.{StageAsks, OfOwner, OwnedLater, WaitLater}
 use Rattle.ax_machine.proofs.KeyLemmas.{lines_in-append}
 use Rattle.ax_execution.proofs.Handles.{Handles, goes_in, silenced}
 use Rattle.ax_execution.proofs.Kept.{idle_mark, done_rest, called_back_kept, fired}

@@ -85,9 +85,9 @@ abbrev pub may_fire : ℤ → ℕ → List ℤ → Bool
 may_fire w zero times = false
 may_fire w (suc more) times = is_due w times
 
--- no owner, but something waits: a mark in front
+-- no owner, and a mark in front
 abbrev pub is_idle_with : Option Context → List Waiting → Bool
-is_idle_with None (i ∷ is) = true
+is_idle_with None (Mark e w more ∷ is) = true
 is_idle_with o is = false
 
 abbrev pub is_idle : Part → Bool

@@ -6,4 +6,6 @@ pub mod Contexts
 pub mod Rest
 pub mod Turns
 pub mod Machine
+pub mod Allowed
+pub mod Tests
 pub mod Rows

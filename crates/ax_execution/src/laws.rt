@@ -11,7 +11,8 @@ ghost use Rattle.ax_execution.specs.Accepted.{AreAccepted};
 ghost use Rattle.ax_execution.specs.Contexts.{Running, Begun, Context, rows_in};
 ghost use Rattle.ax_execution.specs.Origins.{Origin, IsOrigin, first, sync_from, key_sync_from, IsProjectedFrom};
 ghost use Rattle.ax_execution.specs.Rest.{settled, owed};
-ghost use Rattle.ax_execution.specs.Machine.{Happening, Rules, happens, Allowed, IsRun, taken, machine_from, machine_of, in_flight, work, IsAtRest, IsWork};
+ghost use Rattle.ax_execution.specs.Machine.{Happening, Rules, happens, taken, machine_from, machine_of, in_flight, work, IsAtRest, IsWork};
+ghost use Rattle.ax_execution.specs.Allowed.{Allowed, IsRun};
 
 /// Before the first event is an origin, and the plain threads from there are the plain threads.
 pub fn first_is_an_origin()
