@@ -20,7 +20,7 @@ use Rattle.ax_execution.specs.Groups.{on_row, row_facts}
 use Rattle.ax_machine.specs.KeySync.{Said, ran, key_fires, KeyPlain, key_step, key_steps}
 use Rattle.ax_execution.specs.Contexts.{Running, Part, part_lines}
 use Rattle.ax_execution.specs.Rest.{settled, owed}
-use Rattle.ax_execution.specs.Turns.{admit, mark, fire, start, serve, deliver}
+use Rattle.ax_execution.specs.Turns.{admit, mark, fire, start, serve, deliver, start_effects, deliver_effects}
 use Rattle.ax_execution.specs.Machine.{ByWatermark, ByBarrier, Closed, Machine, Happening, Admit, Close, Fire, Start, Serve, Deliver, Send, Rules, part_at, must_fire, goes_on, marker_of, send_first, happens, after_all, taken, machine_from, machine_of, IsWork}
 use Rattle.ax_execution.specs.Allowed.{Allowed, IsRun}
 use Rattle.ax_execution.specs.Origins.{Origin, IsOrigin, plain_from, sync_from, said_from, key_sync_from}
@@ -28,7 +28,7 @@ use Rattle.ax_execution.proofs.Projected.{projected_from}
 use Rattle.ax_execution.proofs.Handles.{Handles}
 use Rattle.ax_execution.proofs.Kept.{admitted, marked}
 use Rattle.ax_execution.proofs.Owed.{written_and_owed}
-use Rattle.ax_execution.proofs.Upto.{by_cases, Grows, said_lines, Sorted, OwnerSorted, PartSorted, part_higher, OwnerGood, Goes, start_goes, serve_goes, deliver_goes, fire_goes, Keeps, admit_keeps, mark_keeps}
+use Rattle.ax_execution.proofs.Upto.{by_cases, said_lines, Sorted, OwnerSorted, PartSorted, part_higher, OwnerGood, Goes, start_goes, serve_goes, deliver_goes, fire_goes, Keeps, admit_keeps, mark_keeps}
 
 -- one event more
 
@@ -50,13 +50,6 @@ on_part P parts k q a b j = by_cases (bytes_eq k j)
     (λ x. subst (P j) (sym (cond-true (bytes_eq k j) q (parts j) x)) (subst (λ (i : Key). P i q) (key_is k j x) a))
     (λ x. subst (P j) (sym (cond-false (bytes_eq k j) q (parts j) x)) (b j))
 
-dropped : (xs ys : List (List ℤ)) → drop (length xs) (xs ++ ys) ≡ ys
-dropped [] ys = refl
-dropped (x ∷ xs) ys = dropped xs ys
-
-new_lines : (xs ys : List (List ℤ)) → Grows xs ys → xs ++ drop (length xs) ys ≡ ys
-new_lines xs ys g = ap (λ (l : List (List ℤ)). xs ++ drop (length xs) l) g.is ∙ (ap (λ (l : List (List ℤ)). xs ++ l) (dropped xs g.more) ∙ sym g.is)
-
 module _ (g : ℕ) (p : Program) (Good : Running → Type 0) (H : Handles p Good) (from : Origin) (fits : IsOrigin p from) where
   -- the machine and the plain thread of each key
   pub record Alone (m : Machine) (done : List Event) : Type 0 where
@@ -72,24 +65,21 @@ module _ (g : ℕ) (p : Program) (Good : Running → Type 0) (H : Handles p Good
 
   -- an event of one key
 
-  goes_wrote : (k : Key) (must : Option Key) (q : Part) (m : Machine) → Goes p Good (m.parts k) q → ((j : Key) → lines_of j m.written ≡ part_lines (m.parts j))
-      → (j : Key) → lines_of j (goes_on k must q m).written ≡ part_lines (part_at m.parts k q j)
-  goes_wrote k must q m go w j = by_cases (bytes_eq k j)
+  goes_wrote : (k : Key) (must : Option Key) (new : List (List ℤ)) (q : Part) (m : Machine) → Goes p Good new (m.parts k) q → ((j : Key) → lines_of j m.written ≡ part_lines (m.parts j))
+      → (j : Key) → lines_of j (goes_on k must new q m).written ≡ part_lines (part_at m.parts k q j)
+  goes_wrote k must new q m go w j = by_cases (bytes_eq k j)
       (λ x. subst (λ (i : Key). lines_of i (m.written ++ says k new) ≡ part_lines q) (key_is k j x) own ∙ sym (ap part_lines (cond-true (bytes_eq k j) q (m.parts j) x)))
       (λ x. lines_of-append j m.written (says k new) ∙ (ap (λ (l : List (List ℤ)). lines_of j m.written ++ l) (lines_of_others j k new x)
       ∙ (append-nil (lines_of j m.written) ∙ (w j ∙ sym (ap part_lines (cond-false (bytes_eq k j) q (m.parts j) x))))))
     where
-      new : List (List ℤ)
-      new = drop (length (part_lines (m.parts k))) (part_lines q)
-
       own : lines_of k (m.written ++ says k new) ≡ part_lines q
       own = lines_of-append k m.written (says k new)
-          ∙ (ap₂ (λ (x y : List (List ℤ)). x ++ y) (w k) (lines_of_says k new) ∙ new_lines (part_lines (m.parts k)) (part_lines q) go.grows)
+          ∙ (ap₂ (λ (x y : List (List ℤ)). x ++ y) (w k) (lines_of_says k new) ∙ sym go.wrote)
 
-  goes_alone : (k : Key) (must : Option Key) (q : Part) (m : Machine) (done : List Event) → Goes p Good (m.parts k) q → Alone m done → Alone (goes_on k must q m) done
-  goes_alone k must q m done go a = record {
+  goes_alone : (k : Key) (must : Option Key) (new : List (List ℤ)) (q : Part) (m : Machine) (done : List Event) → Goes p Good new (m.parts k) q → Alone m done → Alone (goes_on k must new q m) done
+  goes_alone k must new q m done go a = record {
     settles = on_part (λ (j : Key) (x : Part). settled p x ≡ (key_sync_from p from j done).said) m.parts k q (go.settles ∙ a.settles k) a.settles;
-    wrote = goes_wrote k must q m go a.wrote;
+    wrote = goes_wrote k must new q m go a.wrote;
     good = on_part (λ (j : Key) (x : Part). OwnerGood Good x.owner) m.parts k q go.good a.good;
     sorted = on_part (λ (j : Key) (x : Part). PartSorted m.epoch x) m.parts k q (go.sorted m.epoch (a.sorted k)) a.sorted;
     wm = a.wm;
@@ -200,10 +190,10 @@ module _ (g : ℕ) (p : Program) (Good : Running → Type 0) (H : Handles p Good
   event_alone r (Admit n k time values) m done a h = admit_alone n k time values m done a
   event_alone r (Close (ByWatermark w)) m done a h = mark_alone w m done a h.2
   event_alone r (Close (ByBarrier id)) m done a h = barrier_alone id m done a
-  event_alone r (Fire n k) m done a h = none_more _ done (goes_alone k None (fire n (m.parts k)) m done (fire_goes p Good H n (m.parts k) (a.good k)) a)
-  event_alone r (Start k) m done a h = none_more _ done (goes_alone k (must_fire k (start p (m.parts k))) (start p (m.parts k)) m done (start_goes p Good H (m.parts k) (a.good k)) a)
-  event_alone r (Serve k slot) m done a h = none_more _ done (goes_alone k m.must (serve slot (m.parts k)) m done (serve_goes p Good H slot (m.parts k) (a.good k) h.1) a)
-  event_alone r (Deliver k slot) m done a h = none_more _ done (goes_alone k (must_fire k (deliver slot (m.parts k))) (deliver slot (m.parts k)) m done (deliver_goes p Good H slot (m.parts k) (a.good k)) a)
+  event_alone r (Fire n k) m done a h = none_more _ done (goes_alone k None [] (fire n (m.parts k)) m done (fire_goes p Good H n (m.parts k) (a.good k)) a)
+  event_alone r (Start k) m done a h = none_more _ done (goes_alone k (must_fire k (start p (m.parts k))) (start_effects p (m.parts k)).lines (start p (m.parts k)) m done (start_goes p Good H (m.parts k) (a.good k)) a)
+  event_alone r (Serve k slot) m done a h = none_more _ done (goes_alone k m.must [] (serve slot (m.parts k)) m done (serve_goes p Good H slot (m.parts k) (a.good k) h.1) a)
+  event_alone r (Deliver k slot) m done a h = none_more _ done (goes_alone k (must_fire k (deliver slot (m.parts k))) (deliver_effects slot (m.parts k)).lines (deliver slot (m.parts k)) m done (deliver_goes p Good H slot (m.parts k) (a.good k)) a)
   event_alone r Send m done a h = none_more _ done (send_alone m done m.unsent a)
 
   pub taken_next : (done : List Event) (e : Happening) (es : List Happening) → (done ++ taken (e ∷ [])) ++ taken es ≡ done ++ taken (e ∷ es)

@@ -22,7 +22,7 @@ use Rattle.ax_execution.specs.Groups.{handler_weight, weight, unsaid}
 use Rattle.ax_machine.specs.KeySync.{Said}
 use Rattle.ax_execution.specs.Contexts.{Running, running_group, Stage, Unbegun, Begun, stage_group, Context, new_context, Waiting, Row, Mark, Part, part_groups, rows_in, is_due, is_idle_with, is_idle}
 use Rattle.ax_execution.specs.Rest.{served_at, stage_work, owner_work, part_work}
-use Rattle.ax_execution.specs.Turns.{handed, timed, closed_with, left_by, staged, called_back, no_answers, begins, start_stage, start_owner, start, answered, serve_request, serve_stage, serve_owner, serve, gives, give_answer, deliver_stage, deliver_owner, deliver, fire_due, fire_front, fire}
+use Rattle.ax_execution.specs.Turns.{handed, timed, closed_with, left_by, staged, called_back, no_answers, begins, start_stage, start_owner, start, answered, serve_request, serve_stage, serve_owner, serve, gives, give_answer, deliver_stage, deliver_owner, deliver, fire_due, fire_front, fire, start_effects, deliver_effects}
 use Rattle.ax_execution.specs.Machine.{Closed, Machine, Happening, Admit, Close, Fire, Start, Serve, Deliver, Send, Rules, part_at, must_fire, goes_on, send_first, happens, taken, machine_from, machine_of, IsWork, work}
 use Rattle.ax_execution.specs.Allowed.{FirstIsFinished, StageUnbegun, StageAsks, StageHas, OfOwner, Allowed, IsRun}
 use Rattle.ax_execution.specs.Origins.{Origin, IsOrigin}
@@ -65,8 +65,8 @@ module _ (p : Program) (Good : Running → Type 0) (H : Handles p Good) where
       let e : (left j.facts r.answers r.control (handles.goes_in r s.state.cells)).served ≡ r.served + (left j.facts r.answers r.control (handles.goes_in (silenced r) s.state.cells)).served =
       ap (λ (w : World). w.served) (H.left_further j r s.state.cells) in omega arith
 
-  part_falls : (a b : Part) → Goes p Good a b → Does a b → suc (part_work p b) ≡ part_work p a
-  part_falls a b go d = falls p served_more a b go.settles d.done d.weight d.work
+  part_falls : (new : List (List ℤ)) (a b : Part) → Goes p Good new a b → Does a b → suc (part_work p b) ≡ part_work p a
+  part_falls new a b go d = falls p served_more a b go.settles d.done d.weight d.work
 
   -- a callback
   back_does : (c : Context) (st : Stage) (r : Running) (is : List Waiting) (s t : Said)
@@ -192,13 +192,13 @@ module _ (p : Program) (Good : Running → Type 0) (H : Handles p Good) where
 
   -- the machine
 
-  goes_falls : (m : Machine) → IsStrictlySortedBy key_cmp m.keys → (k : Key) (must : Option Key) (q : Part) → list_any (bytes_eq k) m.keys ≡ true → Goes p Good (m.parts k) q → Does (m.parts k) q
-      → suc (work p (goes_on k must q m)) ≡ work p m
-  goes_falls m rises k must q there go d =
+  goes_falls : (m : Machine) → IsStrictlySortedBy key_cmp m.keys → (k : Key) (must : Option Key) (new : List (List ℤ)) (q : Part) → list_any (bytes_eq k) m.keys ≡ true → Goes p Good new (m.parts k) q → Does (m.parts k) q
+      → suc (work p (goes_on k must new q m)) ≡ work p m
+  goes_falls m rises k must new q there go d =
       let a : suc (total m.keys (λ j. part_work p (part_at m.parts k q j))) ≡ total m.keys (λ j. part_work p (m.parts j)) =
       one_less k (λ j. part_work p (m.parts j)) (λ j. part_work p (part_at m.parts k q j)) m.keys rises
       (λ j x. ap (part_work p) (cond-false (bytes_eq k j) q (m.parts j) x)) there
-      (ap (λ (x : Part). suc (part_work p x)) (cond-true (bytes_eq k k) q (m.parts k) (same_key k)) ∙ part_falls (m.parts k) q go d) in
+      (ap (λ (x : Part). suc (part_work p x)) (cond-true (bytes_eq k k) q (m.parts k) (same_key k)) ∙ part_falls new (m.parts k) q go d) in
       omega arith
 
   send_falls : (g : ℕ) (m : Machine) (cs : List Closed) → m.unsent ≡ cs → FirstIsFinished cs m → suc (work p (send_first g p cs m)) ≡ work p m
@@ -210,13 +210,13 @@ module _ (p : Program) (Good : Running → Type 0) (H : Handles p Good) where
   event_falls g r m o rises good (Admit n k time values) i h = absurd i
   event_falls g r m o rises good (Close c) i h = absurd i
   event_falls g r m o rises good (Fire n k) i h =
-      goes_falls m rises k None (fire n (m.parts k)) (idle_present r m o k h.1) (fire_goes p Good H n (m.parts k) (good k)) (fire_does m.must k n (m.parts k) h.1 (o.sound.ordered k))
+      goes_falls m rises k None [] (fire n (m.parts k)) (idle_present r m o k h.1) (fire_goes p Good H n (m.parts k) (good k)) (fire_does m.must k n (m.parts k) h.1 (o.sound.ordered k))
   event_falls g r m o rises good (Start k) i h =
-      goes_falls m rises k (must_fire k (start p (m.parts k))) (start p (m.parts k)) (present r m o StageUnbegun k h.1) (start_goes p Good H (m.parts k) (good k)) (start_does (m.parts k) h.1)
+      goes_falls m rises k (must_fire k (start p (m.parts k))) (start_effects p (m.parts k)).lines (start p (m.parts k)) (present r m o StageUnbegun k h.1) (start_goes p Good H (m.parts k) (good k)) (start_does (m.parts k) h.1)
   event_falls g r m o rises good (Serve k slot) i h =
-      goes_falls m rises k m.must (serve slot (m.parts k)) (present r m o (StageAsks slot) k h.1) (serve_goes p Good H slot (m.parts k) (good k) h.1) (serve_does slot (m.parts k) (good k) h.1)
+      goes_falls m rises k m.must [] (serve slot (m.parts k)) (present r m o (StageAsks slot) k h.1) (serve_goes p Good H slot (m.parts k) (good k) h.1) (serve_does slot (m.parts k) (good k) h.1)
   event_falls g r m o rises good (Deliver k slot) i h =
-      goes_falls m rises k (must_fire k (deliver slot (m.parts k))) (deliver slot (m.parts k)) (present r m o (StageHas slot) k h.1) (deliver_goes p Good H slot (m.parts k) (good k)) (deliver_does slot (m.parts k) (good k) h.1)
+      goes_falls m rises k (must_fire k (deliver slot (m.parts k))) (deliver_effects slot (m.parts k)).lines (deliver slot (m.parts k)) (present r m o (StageHas slot) k h.1) (deliver_goes p Good H slot (m.parts k) (good k)) (deliver_does slot (m.parts k) (good k) h.1)
   event_falls g r m o rises good Send i h = send_falls g m m.unsent refl h.1
 
   pub work_falls : (g : ℕ) (from : Origin) (fits : IsOrigin p from) (r : Rules) (es : List Happening) → IsRun r g p es (machine_from from) → (e : Happening) → IsWork e → Allowed r e (machine_of g p from es)

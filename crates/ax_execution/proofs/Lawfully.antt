@@ -20,7 +20,7 @@ use Rattle.ax_execution.specs.Groups.{row_facts}
 use Rattle.ax_machine.specs.KeySync.{Said}
 use Rattle.ax_execution.specs.Contexts.{Running, Context, Waiting, Part, part_lines}
 use Rattle.ax_execution.specs.Rest.{settled}
-use Rattle.ax_execution.specs.Turns.{admit, mark, fire, start, serve, deliver}
+use Rattle.ax_execution.specs.Turns.{admit, mark, fire, start, serve, deliver, start_effects, deliver_effects}
 use Rattle.ax_execution.specs.Machine.{Closing, ByWatermark, ByBarrier, Closed, Machine, Happening, Admit, Close, Fire, Start, Serve, Deliver, Send, Rules, part_at, must_fire, goes_on, marker_of, send_first, close, happens, after_all, taken, machine_from, machine_of, IsAtRest}
 use Rattle.ax_execution.specs.Allowed.{IsWatermark, NoBarrier, IsOpen, IsFinished, FirstIsFinished, Allowed, IsRun}
 use Rattle.ax_execution.specs.Origins.{Origin, IsOrigin, plain_from, sync_from, said_from, key_sync_from}
@@ -210,14 +210,14 @@ module _ (g : ℕ) (p : Program) (Good : Running → Type 0) (H : Handles p Good
 
   -- an event of one key
 
-  goes_in_step : (k : Key) (must : Option Key) (q : Part) (m : Machine) (done : List Event) → Goes p Good (m.parts k) q → Alone g p Good H from fits (goes_on k must q m) done → IsInStep m done
-      → IsInStep (goes_on k must q m) done
-  goes_in_step k must q m done go a i = record {
+  goes_in_step : (k : Key) (must : Option Key) (new : List (List ℤ)) (q : Part) (m : Machine) (done : List Event) → Goes p Good new (m.parts k) q → Alone g p Good H from fits (goes_on k must new q m) done → IsInStep m done
+      → IsInStep (goes_on k must new q m) done
+  goes_in_step k must new q m done go a i = record {
     alone = a;
     sent = i.sent;
     unsent = i.unsent;
     cuts_are = i.cuts_are;
-    paired = subst (λ (cs : List Cut). Paired serial cs i.sent) (sym (cuts_said m.written k (drop (length (part_lines (m.parts k))) (part_lines q)))) i.paired;
+    paired = subst (λ (cs : List Cut). Paired serial cs i.sent) (sym (cuts_said m.written k new)) i.paired;
     awaits = awaits_map m.parts (part_at m.parts k q) m.epoch m.epoch (sync_from g p from done) (sync_from g p from done)
         (λ d c w. record {
           earlier = w.earlier;
@@ -420,10 +420,10 @@ module _ (g : ℕ) (p : Program) (Good : Running → Type 0) (H : Handles p Good
   event_at r same (Admit n k time values) m done i h a = admit_in_step r same n k time values m done i h.1 a
   event_at r same (Close (ByWatermark w)) m done i h a = mark_in_step r same w m done i h.1 h.2 a
   event_at r same (Close (ByBarrier id)) m done i h a = barrier_in_step r same id m done i h.1 a
-  event_at r same (Fire n k) m done i h a = none_more _ done (goes_in_step k None (fire n (m.parts k)) m done (fire_goes p Good H n (m.parts k) (i.alone.good k)) (of_none _ done a) i)
-  event_at r same (Start k) m done i h a = none_more _ done (goes_in_step k (must_fire k (start p (m.parts k))) (start p (m.parts k)) m done (start_goes p Good H (m.parts k) (i.alone.good k)) (of_none _ done a) i)
-  event_at r same (Serve k slot) m done i h a = none_more _ done (goes_in_step k m.must (serve slot (m.parts k)) m done (serve_goes p Good H slot (m.parts k) (i.alone.good k) h.1) (of_none _ done a) i)
-  event_at r same (Deliver k slot) m done i h a = none_more _ done (goes_in_step k (must_fire k (deliver slot (m.parts k))) (deliver slot (m.parts k)) m done (deliver_goes p Good H slot (m.parts k) (i.alone.good k)) (of_none _ done a) i)
+  event_at r same (Fire n k) m done i h a = none_more _ done (goes_in_step k None [] (fire n (m.parts k)) m done (fire_goes p Good H n (m.parts k) (i.alone.good k)) (of_none _ done a) i)
+  event_at r same (Start k) m done i h a = none_more _ done (goes_in_step k (must_fire k (start p (m.parts k))) (start_effects p (m.parts k)).lines (start p (m.parts k)) m done (start_goes p Good H (m.parts k) (i.alone.good k)) (of_none _ done a) i)
+  event_at r same (Serve k slot) m done i h a = none_more _ done (goes_in_step k m.must [] (serve slot (m.parts k)) m done (serve_goes p Good H slot (m.parts k) (i.alone.good k) h.1) (of_none _ done a) i)
+  event_at r same (Deliver k slot) m done i h a = none_more _ done (goes_in_step k (must_fire k (deliver slot (m.parts k))) (deliver_effects slot (m.parts k)).lines (deliver slot (m.parts k)) m done (deliver_goes p Good H slot (m.parts k) (i.alone.good k)) (of_none _ done a) i)
   event_at r same Send m done i h a = none_more _ done (send_in_step m done i m.unsent refl h.1 (of_none _ done a))
 
   pub event_in_step : (r : Rules) → r.serial ≡ serial → (e : Happening) (m : Machine) (done : List Event) → IsInStep m done → Allowed r e m → IsInStep (happens g p e m) (done ++ taken (e ∷ []))

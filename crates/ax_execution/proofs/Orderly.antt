@@ -26,7 +26,7 @@ use Rattle.ax_text.specs.Jobs.{firing_job}
 use Rattle.ax_execution.specs.Groups.{row_facts}
 use Rattle.ax_machine.specs.KeySync.{Said}
 use Rattle.ax_execution.specs.Contexts.{Running, running_group, Stage, Unbegun, Begun, Context, new_context, Waiting, Row, Mark, Part, contexts_in, owners, rows_in, is_due, may_fire, is_idle_with, is_idle}
-use Rattle.ax_execution.specs.Turns.{handed, timed, closed_with, left_by, staged, called_back, no_answers, begins, start_stage, start_owner, start, serve_request, serve_stage, serve_owner, serve, gives, give_answer, deliver_stage, deliver_owner, deliver, fire_due, fire_front, fire, admit_at, admit, mark_at, mark}
+use Rattle.ax_execution.specs.Turns.{handed, timed, closed_with, left_by, staged, called_back, no_answers, begins, start_stage, start_owner, start, serve_request, serve_stage, serve_owner, serve, gives, give_answer, deliver_stage, deliver_owner, deliver, fire_due, fire_front, fire, admit_at, admit, mark_at, mark, Effects, start_effects, deliver_effects}
 use Rattle.ax_execution.specs.Machine.{ByWatermark, ByBarrier, Closed, Machine, Happening, Admit, Close, Fire, Start, Serve, Deliver, Send, Rules, part_at, must_fire, goes_on, calls_back, send_first, happens, in_flight, after_all, taken, machine_from, machine_of, IsAtRest, IsWork}
 use Rattle.ax_execution.specs.Allowed.{NoneIsIdle, NumbersOwner, NotIn, IsNew, StageUnbegun, StageAsks, StageHas, OfOwner, MayFireNow, Allowed, IsRun}
 use Rattle.ax_execution.proofs.Handles.{Handles}
@@ -313,8 +313,8 @@ module _ (r : Rules) (m : Machine) (o : IsOrderly r m) (rises : IsStrictlySorted
   own k q = ap contexts_in (own_part m.parts k q)
 
   -- Start and Deliver
-  back_orderly : (k : Key) (q : Part) → m.must ≡ None → list_any (bytes_eq k) m.keys ≡ true → Leaves (must_fire k q) k (m.parts k) q → IsOrderly r (calls_back k q m)
-  back_orderly k q none there l = record {
+  back_orderly : (k : Key) (effects : Effects) (q : Part) → m.must ≡ None → list_any (bytes_eq k) m.keys ≡ true → Leaves (must_fire k q) k (m.parts k) q → IsOrderly r (calls_back k effects q m)
+  back_orderly k effects q none there l = record {
     sound = record {
       awake = at_part (λ (j : Key) (x : Part). IsAwake x.owner) m.parts k q l.awake (λ j x. o.sound.awake j);
       ordered = at_part (λ (j : Key) (x : Part). IsOrdered (must_fire k q) j x.owner x.waiting x.said.state.times) m.parts k q l.ordered
@@ -327,7 +327,7 @@ module _ (r : Rules) (m : Machine) (o : IsOrderly r m) (rises : IsStrictlySorted
     absent = still_absent r m o k q there;
   }
     where
-      room : (j : Key) (b : Bool) → is_idle q ≡ b → cond b (Some k) None ≡ Some j → (is_idle (part_at m.parts k q j) ≡ true) × (in_flight (calls_back k q m) < r.limit)
+      room : (j : Key) (b : Bool) → is_idle q ≡ b → cond b (Some k) None ≡ Some j → (is_idle (part_at m.parts k q j) ≡ true) × (in_flight (calls_back k effects q m) < r.limit)
       room j true i h = let same : k ≡ j = cc in (
         ap (λ (x : Key). is_idle (part_at m.parts k q x)) (sym same) ∙ (ap is_idle (own_part m.parts k q) ∙ i),
         (let a : suc (total m.keys (λ j. contexts_in (part_at m.parts k q j))) ≤ total m.keys (λ j. contexts_in (m.parts j)) =
@@ -338,7 +338,7 @@ module _ (r : Rules) (m : Machine) (o : IsOrderly r m) (rises : IsStrictlySorted
       room j false i h = absurd (none_some h)
 
   -- Serve
-  serve_orderly : (k : Key) (q : Part) → m.must ≡ None → list_any (bytes_eq k) m.keys ≡ true → StaysOwned m.must k (m.parts k) q → IsOrderly r (goes_on k m.must q m)
+  serve_orderly : (k : Key) (q : Part) → m.must ≡ None → list_any (bytes_eq k) m.keys ≡ true → StaysOwned m.must k (m.parts k) q → IsOrderly r (goes_on k m.must [] q m)
   serve_orderly k q none there l = record {
     sound = record {
       awake = at_part (λ (j : Key) (x : Part). IsAwake x.owner) m.parts k q l.awake (λ j x. o.sound.awake j);
@@ -352,7 +352,7 @@ module _ (r : Rules) (m : Machine) (o : IsOrderly r m) (rises : IsStrictlySorted
   }
 
   -- Fire
-  fire_orderly : (k : Key) (q : Part) → MayFireNow k m.must → in_flight m < r.limit → list_any (bytes_eq k) m.keys ≡ true → Grown None k (m.parts k) q → IsOrderly r (goes_on k None q m)
+  fire_orderly : (k : Key) (q : Part) → MayFireNow k m.must → in_flight m < r.limit → list_any (bytes_eq k) m.keys ≡ true → Grown None k (m.parts k) q → IsOrderly r (goes_on k None [] q m)
   fire_orderly k q may some there l = record {
     sound = record {
       awake = at_part (λ (j : Key) (x : Part). IsAwake x.owner) m.parts k q l.awake (λ j x. o.sound.awake j);
@@ -425,9 +425,9 @@ module _ (r : Rules) (m : Machine) (o : IsOrderly r m) (rises : IsStrictlySorted
   event_orderly g p (Close (ByWatermark w)) h = mark_orderly g p w h.0
   event_orderly g p (Close (ByBarrier id)) h = barrier_orderly g p id
   event_orderly g p (Fire n k) h = fire_orderly k (fire n (m.parts k)) h.0 h.2 (idle_present r m o k h.1) (fire_grown m.must None k n (m.parts k) h.1 (o.sound.ordered k))
-  event_orderly g p (Start k) h = back_orderly k (start p (m.parts k)) h.0 (present r m o StageUnbegun k h.1) (start_leaves p k (m.parts k) h.1)
+  event_orderly g p (Start k) h = back_orderly k (start_effects p (m.parts k)) (start p (m.parts k)) h.0 (present r m o StageUnbegun k h.1) (start_leaves p k (m.parts k) h.1)
   event_orderly g p (Serve k slot) h = serve_orderly k (serve slot (m.parts k)) h.0 (present r m o (StageAsks slot) k h.1) (serve_stays m.must k slot (m.parts k) h.1 (o.sound.awake k))
-  event_orderly g p (Deliver k slot) h = back_orderly k (deliver slot (m.parts k)) h.0 (present r m o (StageHas slot) k h.1) (deliver_leaves k slot (m.parts k) h.1)
+  event_orderly g p (Deliver k slot) h = back_orderly k (deliver_effects slot (m.parts k)) (deliver slot (m.parts k)) h.0 (present r m o (StageHas slot) k h.1) (deliver_leaves k slot (m.parts k) h.1)
   event_orderly g p Send h = send_orderly g p m.unsent
 
 none_in_flight : (ks : List Key) → total ks (λ k. 0) ≡ 0

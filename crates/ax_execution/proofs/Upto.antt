@@ -17,7 +17,7 @@ use Rattle.ax_execution.specs.Groups.{on_row, unsaid}
 use Rattle.ax_machine.specs.KeySync.{Said, ran, fire_first, key_fires}
 use Rattle.ax_execution.specs.Contexts.{Running, running_group, Stage, Unbegun, Begun, stage_group, Context, new_context, Waiting, Row, Mark, Part, owner_groups, part_lines, is_due, may_fire}
 use Rattle.ax_execution.specs.Rest.{rest_running, rest_stage, rest_owner, rest_items, settled}
-use Rattle.ax_execution.specs.Turns.{handed, timed, closed_with, left_by, staged, called_back, no_answers, begins, start_stage, start_owner, start, answered, applied, serve_request, serve_stage, serve_owner, serve, gives, give_answer, deliver_stage, deliver_owner, deliver, fire_due, fire_front, fire, admit_at, admit, mark_at, mark}
+use Rattle.ax_execution.specs.Turns.{handed, timed, closed_with, left_by, staged, called_back, no_answers, begins, start_stage, start_owner, start, answered, applied, serve_request, serve_stage, serve_owner, serve, gives, give_answer, deliver_stage, deliver_owner, deliver, fire_due, fire_front, fire, admit_at, admit, mark_at, mark, stage_starts, owner_starts, start_effects, answer_gives, stage_gives, owner_gives, deliver_effects}
 use Rattle.ax_execution.specs.Allowed.{StageAsks, OfOwner, OwnedLater, WaitLater}
 use Rattle.ax_machine.proofs.KeyLemmas.{lines_in-append}
 use Rattle.ax_execution.proofs.Handles.{Handles, goes_in, silenced}
@@ -54,6 +54,10 @@ group_grows gs g h a = record {
   is = lines_last gs h ∙ (ap (λ (l : List (List ℤ)). lines_in gs ++ l) a.is
       ∙ (sym (append_assoc (lines_in gs) g.lines a.more) ∙ ap (λ (l : List (List ℤ)). l ++ a.more) (sym (lines_last gs g))));
 }
+
+group_writes : (gs : List Group) (g h : Group) (lines : List (List ℤ)) → h.lines ≡ g.lines ++ lines → lines_in (gs ++ h ∷ []) ≡ lines_in (gs ++ g ∷ []) ++ lines
+unfolding group_grows
+group_writes gs g h lines e = (group_grows gs g h (record { more = lines; is = e })).is
 
 abbrev pub said_lines : Said → List (List ℤ)
 said_lines s = lines_in s.groups
@@ -153,10 +157,10 @@ OwnerGood Good None = Unit {0}
 OwnerGood Good (Some c) = StageGood Good c.stage
 
 -- an event of a key: what the key comes to stays, its lines grow, and so do those up to each epoch
-pub record Goes (p : Program) (Good : Running → Type 0) (a b : Part) : Type 0 where
+pub record Goes (p : Program) (Good : Running → Type 0) (lines : List (List ℤ)) (a b : Part) : Type 0 where
   pub settles : settled p b ≡ settled p a
   pub good : OwnerGood Good b.owner
-  pub grows : Grows (part_lines a) (part_lines b)
+  pub wrote : part_lines b ≡ part_lines a ++ lines
   pub sorted : (hi : ℕ) → PartSorted hi a → PartSorted hi b
   pub upto : (e hi : ℕ) → PartSorted hi a → Grows (said_lines (upto p e a)) (said_lines (upto p e b))
 
@@ -290,20 +294,20 @@ module _ (p : Program) (Good : Running → Type 0) (H : Handles p Good) where
       of true = handed_is is (closed_with (running_group c.job r) s)
       of false = (g, refl)
 
-  pub same_goes : (q : Part) → OwnerGood Good q.owner → Goes p Good q q
-  same_goes q g = record { settles = refl; good = g; grows = grows_refl (part_lines q); sorted = λ hi h. h; upto = λ e hi h. grows_refl (said_lines (upto p e q)) }
+  pub same_goes : (q : Part) → OwnerGood Good q.owner → Goes p Good [] q q
+  same_goes q g = record { settles = refl; good = g; wrote = sym (append-nil (part_lines q)); sorted = λ hi h. h; upto = λ e hi h. grows_refl (said_lines (upto p e q)) }
 
   -- a callback that keeps what the owner comes to
-  back_goes : (n f : ℕ) (j : Job) (st : Stage) (r : Running) (is : List Waiting) (s t : Said)
+  back_goes : (n f : ℕ) (j : Job) (st : Stage) (r : Running) (is : List Waiting) (s t : Said) (lines : List (List ℤ))
       → rest_running j r t ≡ rest_stage p j st s → Good r
       → Grows (said_lines (stage_late j st s)) (lines_in (t.groups ++ running_group j r ∷ []))
-      → Grows (lines_in (s.groups ++ stage_group j st ∷ [])) (lines_in (t.groups ++ running_group j r ∷ []))
-      → Goes p Good (part_of (Some (context_of n f j st)) is s) (called_back (context_of n f j st) r is t)
+      → lines_in (t.groups ++ running_group j r ∷ []) ≡ lines_in (s.groups ++ stage_group j st ∷ []) ++ lines
+      → Goes p Good lines (part_of (Some (context_of n f j st)) is s) (called_back (context_of n f j st) r is t)
   unfolding PartSorted OwnerSorted upto
-  back_goes n f j st r is s t law g late more = record {
+  back_goes n f j st r is s t lines law g late more = record {
     settles = called_back_kept p Good H c r is t ∙ ap (rest_items p is) law;
     good = (back_is c r is t g).0;
-    grows = subst (Grows (lines_in (s.groups ++ stage_group j st ∷ []))) (sym (back_is c r is t g).1) more;
+    wrote = (back_is c r is t g).1 ∙ more;
     sorted = λ hi h. back_sorted hi c r is t h.0 h.1;
     upto = λ e hi h. by_cases (nat_le f e)
         (λ x. grows_path _ _ (rw x (ap (λ (u : Said). said_lines (rest_items p (until e is) u)) (sym law)) ∙ sym (ap said_lines (back_in e c r is t x))))
@@ -317,32 +321,32 @@ module _ (p : Program) (Good : Running → Type 0) (H : Handles p Good) where
   -- Start
 
   start_at : (n f : ℕ) (j : Job) (st : Stage) (is : List Waiting) (s : Said) → StageGood Good st
-      → Goes p Good (part_of (Some (context_of n f j st)) is s) (start_stage p (context_of n f j st) st (part_of (Some (context_of n f j st)) is s))
+      → Goes p Good (stage_starts p j st).lines (part_of (Some (context_of n f j st)) is s) (start_stage p (context_of n f j st) st (part_of (Some (context_of n f j st)) is s))
   unfolding OwnerGood
   start_at n f j Unbegun is s g =
       let r : Running = left_by (begins p j) no_answers [] 0 in
-      back_goes n f j Unbegun r is s (timed (begins p j) s) (H.begin_law j s) (H.begin_good j)
-      (open_grows s.groups (running_group j r)) (group_grows s.groups (unsaid j) (running_group j r) (record { more = r.lines; is = refl }))
+      back_goes n f j Unbegun r is s (timed (begins p j) s) (begins p j).talk.lines (H.begin_law j s) (H.begin_good j)
+      (open_grows s.groups (running_group j r)) (group_writes s.groups (unsaid j) (running_group j r) (begins p j).talk.lines refl)
   start_at n f j (Begun r) is s g = same_goes (part_of (Some (context_of n f j (Begun r))) is s) g
 
-  start_of : (o : Option Context) (is : List Waiting) (s : Said) → OwnerGood Good o → Goes p Good (part_of o is s) (start_owner p o (part_of o is s))
+  start_of : (o : Option Context) (is : List Waiting) (s : Said) → OwnerGood Good o → Goes p Good (owner_starts p o).lines (part_of o is s) (start_owner p o (part_of o is s))
   unfolding OwnerGood
   start_of None is s g = same_goes (part_of None is s) g
   start_of (Some c) is s g = start_at c.number c.epoch c.job c.stage is s g
 
-  pub start_goes : (q : Part) → OwnerGood Good q.owner → Goes p Good q (start p q)
+  pub start_goes : (q : Part) → OwnerGood Good q.owner → Goes p Good (start_effects p q).lines q (start p q)
   start_goes q g = start_of q.owner q.waiting q.said g
 
   -- Serve
 
   serve_with : (n f : ℕ) (j : Job) (r : Running) (slot : ℕ) (o : Option Request) (is : List Waiting) (s : Said) → request_at r.control slot ≡ o → r.answers slot ≡ None → Good r
-      → Goes p Good (part_of (Some (context_of n f j (Begun r))) is s) (serve_request (context_of n f j (Begun r)) r slot o (part_of (Some (context_of n f j (Begun r))) is s))
+      → Goes p Good [] (part_of (Some (context_of n f j (Begun r))) is s) (serve_request (context_of n f j (Begun r)) r slot o (part_of (Some (context_of n f j (Begun r))) is s))
   unfolding OwnerGood StageGood PartSorted OwnerSorted upto
   serve_with n f j r slot None is s e a g = same_goes (part_of (Some (context_of n f j (Begun r))) is s) g
   serve_with n f j r slot (Some q) is s e a g = record {
     settles = ap (rest_items p is) law;
     good = H.serve_good r slot q (answer_of q s.state.cells) g e a;
-    grows = more;
+    wrote = group_writes s.groups (running_group j r) (running_group j after) [] (sym (append-nil r.lines));
     sorted = λ hi h. h;
     upto = λ u hi h. by_cases (nat_le f u)
         (λ x. grows_path _ _ (rw x (ap (λ (v : Said). said_lines (rest_items p (until u is) v)) (sym law))))
@@ -359,43 +363,43 @@ module _ (p : Program) (Good : Running → Type 0) (H : Handles p Good) where
       more = group_grows s.groups (running_group j r) (running_group j (answered r slot (answer_of q s.state.cells))) (grows_refl r.lines)
 
   serve_at : (n f : ℕ) (j : Job) (st : Stage) (slot : ℕ) (is : List Waiting) (s : Said) → StageGood Good st → StageAsks slot st
-      → Goes p Good (part_of (Some (context_of n f j st)) is s) (serve_stage (context_of n f j st) slot st (part_of (Some (context_of n f j st)) is s))
+      → Goes p Good [] (part_of (Some (context_of n f j st)) is s) (serve_stage (context_of n f j st) slot st (part_of (Some (context_of n f j st)) is s))
   unfolding StageGood
   serve_at n f j Unbegun slot is s g a = absurd a
   serve_at n f j (Begun r) slot is s g a = serve_with n f j r slot (request_at r.control slot) is s refl a.1 g
 
-  serve_of : (slot : ℕ) (o : Option Context) (is : List Waiting) (s : Said) → OwnerGood Good o → OfOwner (StageAsks slot) o → Goes p Good (part_of o is s) (serve_owner slot o (part_of o is s))
+  serve_of : (slot : ℕ) (o : Option Context) (is : List Waiting) (s : Said) → OwnerGood Good o → OfOwner (StageAsks slot) o → Goes p Good [] (part_of o is s) (serve_owner slot o (part_of o is s))
   unfolding OwnerGood
   serve_of slot None is s g a = absurd a
   serve_of slot (Some c) is s g a = serve_at c.number c.epoch c.job c.stage slot is s g a
 
-  pub serve_goes : (slot : ℕ) (q : Part) → OwnerGood Good q.owner → OfOwner (StageAsks slot) q.owner → Goes p Good q (serve slot q)
+  pub serve_goes : (slot : ℕ) (q : Part) → OwnerGood Good q.owner → OfOwner (StageAsks slot) q.owner → Goes p Good [] q (serve slot q)
   serve_goes slot q g a = serve_of slot q.owner q.waiting q.said g a
 
   -- Deliver
 
   deliver_with : (n f : ℕ) (j : Job) (r : Running) (slot : ℕ) (o : Option Answer) (is : List Waiting) (s : Said) → r.answers slot ≡ o → Good r
-      → Goes p Good (part_of (Some (context_of n f j (Begun r))) is s) (give_answer (context_of n f j (Begun r)) r slot o (part_of (Some (context_of n f j (Begun r))) is s))
+      → Goes p Good (answer_gives j r slot o).lines (part_of (Some (context_of n f j (Begun r))) is s) (give_answer (context_of n f j (Begun r)) r slot o (part_of (Some (context_of n f j (Begun r))) is s))
   unfolding OwnerGood StageGood
   deliver_with n f j r slot None is s e g = same_goes (part_of (Some (context_of n f j (Begun r))) is s) g
   deliver_with n f j r slot (Some a) is s e g =
       let next : Running = left_by (gives j r slot a) (upd r.answers slot None) r.lines r.served in
       let more : Grows (lines_in (s.groups ++ running_group j r ∷ [])) (lines_in (s.groups ++ running_group j next ∷ [])) =
       group_grows s.groups (running_group j r) (running_group j next) (record { more = (gives j r slot a).talk.lines; is = refl }) in
-      back_goes n f j (Begun r) next is s (timed (gives j r slot a) s) (H.give_law j r slot a s g e) (H.give_good j r slot a g e) more more
+      back_goes n f j (Begun r) next is s (timed (gives j r slot a) s) (gives j r slot a).talk.lines (H.give_law j r slot a s g e) (H.give_good j r slot a g e) more (group_writes s.groups (running_group j r) (running_group j next) (gives j r slot a).talk.lines refl)
 
   deliver_at : (n f : ℕ) (j : Job) (st : Stage) (slot : ℕ) (is : List Waiting) (s : Said) → StageGood Good st
-      → Goes p Good (part_of (Some (context_of n f j st)) is s) (deliver_stage (context_of n f j st) slot st (part_of (Some (context_of n f j st)) is s))
+      → Goes p Good (stage_gives slot j st).lines (part_of (Some (context_of n f j st)) is s) (deliver_stage (context_of n f j st) slot st (part_of (Some (context_of n f j st)) is s))
   unfolding OwnerGood StageGood
   deliver_at n f j Unbegun slot is s g = same_goes (part_of (Some (context_of n f j Unbegun)) is s) tt
   deliver_at n f j (Begun r) slot is s g = deliver_with n f j r slot (r.answers slot) is s refl g
 
-  deliver_of : (slot : ℕ) (o : Option Context) (is : List Waiting) (s : Said) → OwnerGood Good o → Goes p Good (part_of o is s) (deliver_owner slot o (part_of o is s))
+  deliver_of : (slot : ℕ) (o : Option Context) (is : List Waiting) (s : Said) → OwnerGood Good o → Goes p Good (owner_gives slot o).lines (part_of o is s) (deliver_owner slot o (part_of o is s))
   unfolding OwnerGood
   deliver_of slot None is s g = same_goes (part_of None is s) tt
   deliver_of slot (Some c) is s g = deliver_at c.number c.epoch c.job c.stage slot is s g
 
-  pub deliver_goes : (slot : ℕ) (q : Part) → OwnerGood Good q.owner → Goes p Good q (deliver slot q)
+  pub deliver_goes : (slot : ℕ) (q : Part) → OwnerGood Good q.owner → Goes p Good (deliver_effects slot q).lines q (deliver slot q)
   deliver_goes slot q g = deliver_of slot q.owner q.waiting q.said g
 
   -- Fire
@@ -405,7 +409,7 @@ module _ (p : Program) (Good : Running → Type 0) (H : Handles p Good) where
 
   fire_due_goes : (n f : ℕ) (w : ℤ) (more : ℕ) (is : List Waiting) (times : List ℤ) (s : Said) → s.state.times ≡ times
       → settled p (fire_due n f w more is times (part_of None (Mark f w (suc more) ∷ is) s)) ≡ settled p (part_of None (Mark f w (suc more) ∷ is) s)
-      → Goes p Good (part_of None (Mark f w (suc more) ∷ is) s) (fire_due n f w more is times (part_of None (Mark f w (suc more) ∷ is) s))
+      → Goes p Good [] (part_of None (Mark f w (suc more) ∷ is) s) (fire_due n f w more is times (part_of None (Mark f w (suc more) ∷ is) s))
   unfolding OwnerGood StageGood PartSorted OwnerSorted Sorted upto
   fire_due_goes n f w more is [] s e h = same_goes (part_of None (Mark f w (suc more) ∷ is) s) tt
   fire_due_goes n f w more is (t ∷ ts) s e h = of (int_le t w) refl h
@@ -426,11 +430,11 @@ module _ (p : Program) (Good : Running → Type 0) (H : Handles p Good) where
       fires : int_le t w ≡ true → key_fires p w (suc more) s ≡ key_fires p w more (ran p (firing_job w t) (without_least s.state) s)
       fires x = ap (λ (l : List ℤ). fire_first p w (key_fires p w more) l s) e ∙ cond-true (int_le t w) _ s x
 
-      of : (b : Bool) → int_le t w ≡ b → settled p (cond b behind before) ≡ settled p before → Goes p Good before (cond b behind before)
+      of : (b : Bool) → int_le t w ≡ b → settled p (cond b behind before) ≡ settled p before → Goes p Good [] before (cond b behind before)
       of true x l = record {
         settles = l;
         good = tt;
-        grows = grows_path _ _ (unbegun_lines s (firing_job w t));
+        wrote = sym (unbegun_lines s (firing_job w t)) ∙ sym (append-nil (lines_in (s.groups ++ [])));
         sorted = λ hi y. (y.1, (le_self f, y.1, y.2));
         upto = λ u hi y. by_cases (nat_le f u)
             (λ z. grows_path _ _ (rw z (ap (λ (v : Said). said_lines (rest_items p (until u is) v)) (fires x))))
@@ -438,14 +442,14 @@ module _ (p : Program) (Good : Running → Type 0) (H : Handles p Good) where
       }
       of false x l = same_goes before tt
 
-  fire_of : (n : ℕ) (o : Option Context) (is : List Waiting) (s : Said) → OwnerGood Good o → Goes p Good (part_of o is s) (fire_front n o is (part_of o is s))
+  fire_of : (n : ℕ) (o : Option Context) (is : List Waiting) (s : Said) → OwnerGood Good o → Goes p Good [] (part_of o is s) (fire_front n o is (part_of o is s))
   fire_of n None [] s g = same_goes (part_of None [] s) g
   fire_of n None (Row i f facts ∷ is) s g = same_goes (part_of None (Row i f facts ∷ is) s) g
   fire_of n None (Mark f w zero ∷ is) s g = same_goes (part_of None (Mark f w zero ∷ is) s) g
   fire_of n None (Mark f w (suc more) ∷ is) s g = fire_due_goes n f w more is s.state.times s refl (fired p Good H n (part_of None (Mark f w (suc more) ∷ is) s))
   fire_of n (Some c) is s g = same_goes (part_of (Some c) is s) g
 
-  pub fire_goes : (n : ℕ) (q : Part) → OwnerGood Good q.owner → Goes p Good q (fire n q)
+  pub fire_goes : (n : ℕ) (q : Part) → OwnerGood Good q.owner → Goes p Good [] q (fire n q)
   fire_goes n q g = fire_of n q.owner q.waiting q.said g
 
   -- a row or a mark of a later epoch

@@ -1,5 +1,5 @@
 -- The machine of seven events.
-use Rattle.std.specs.Prelude.{◌≡◌, ℕ, suc, ◌+◌, ◌<◌, ℤ, int_lt, List, [], ◌∷◌, ◌++◌, length, drop, Bool, true, false, if◌then◌else◌, Option, Some, None}
+use Rattle.std.specs.Prelude.{◌≡◌, ℕ, suc, ◌+◌, ◌<◌, ℤ, int_lt, List, [], ◌∷◌, ◌++◌, length, Bool, false, if◌then◌else◌, Option, Some, None}
 use Rattle.std.specs.Str.{bytes_eq}
 use Rattle.std.specs.BTreeSet.{insert_key}
 use Rattle.ax_keys.specs.Keys.{key_cmp}
@@ -14,12 +14,12 @@ use Rattle.ax_machine.specs.Firings.{most_firings}
 use Rattle.ax_execution.specs.Sums.{total}
 use Rattle.ax_machine.specs.Blocks.{block_text}
 use Rattle.ax_machine.specs.Sync.{parts_of}
-use Rattle.ax_text.specs.Controls.{request_at}
+use Rattle.ax_text.specs.Controls.{Ask'}
 use Rattle.ax_execution.specs.Groups.{row_facts}
 use Rattle.ax_execution.specs.Origins.{Origin, said_from}
 use Rattle.ax_execution.specs.Contexts.{Stage, Unbegun, Begun, Context, Waiting, Row, Mark, Part, part_lines, contexts_in, is_idle}
 use Rattle.ax_execution.specs.Rest.{part_work}
-use Rattle.ax_execution.specs.Turns.{admit, mark, fire, start, serve, deliver}
+use Rattle.ax_execution.specs.Turns.{Effects, start_effects, deliver_effects, admit, mark, fire, start, serve, deliver}
 
 -- what closed an epoch
 pub data Closing : Type 0 where
@@ -66,21 +66,21 @@ part_at parts k part q = if bytes_eq k q then part else parts q
 abbrev pub must_fire : Key → Part → Option Key
 must_fire k part = if is_idle part then Some k else None
 
--- a key goes on, and its new lines are written
-abbrev pub goes_on : Key → Option Key → Part → Machine → Machine
-goes_on k must part m = record {
+-- a key goes on, and these lines of it are written
+abbrev pub goes_on : Key → Option Key → List (List ℤ) → Part → Machine → Machine
+goes_on k must lines part m = record {
   wm = m.wm;
   epoch = m.epoch;
   keys = m.keys;
   unsent = m.unsent;
   parts = part_at m.parts k part;
   must = must;
-  written = m.written ++ says k (drop (length (part_lines (m.parts k))) (part_lines part));
+  written = m.written ++ says k lines;
 }
 
 -- a callback of a key's owner ends
-abbrev pub calls_back : Key → Part → Machine → Machine
-calls_back k part m = goes_on k (must_fire k part) part m
+abbrev pub calls_back : Key → Effects → Part → Machine → Machine
+calls_back k effects part m = goes_on k (must_fire k part) effects.lines part m
 
 abbrev pub marker_of : ℕ → Program → Closing → Machine → entry.Marker
 marker_of g p (ByWatermark time) m = Watermark time
@@ -114,11 +114,37 @@ happens g p (Admit n k time values) m = record {
 }
 happens g p (Close (ByWatermark w)) m = close (ByWatermark w) (λ k. mark m.epoch w most_firings (m.parts k)) w m
 happens g p (Close (ByBarrier id)) m = close (ByBarrier id) m.parts m.wm m
-happens g p (Fire n k) m = goes_on k None (fire n (m.parts k)) m
-happens g p (Start k) m = calls_back k (start p (m.parts k)) m
-happens g p (Serve k slot) m = goes_on k m.must (serve slot (m.parts k)) m
-happens g p (Deliver k slot) m = calls_back k (deliver slot (m.parts k)) m
+happens g p (Fire n k) m = goes_on k None [] (fire n (m.parts k)) m
+happens g p (Start k) m = calls_back k (start_effects p (m.parts k)) (start p (m.parts k)) m
+happens g p (Serve k slot) m = goes_on k m.must [] (serve slot (m.parts k)) m
+happens g p (Deliver k slot) m = calls_back k (deliver_effects slot (m.parts k)) (deliver slot (m.parts k)) m
 happens g p Send m = send_first g p m.unsent m
+
+-- what an event does besides changing the machine's state: the entries that it writes, the requests that it asks, in the order
+-- of their slots, and whether a context is given up
+pub record Outcome : Type 0 where
+  pub entries : List Entry
+  pub asks : List Ask'
+  pub gone : Bool
+
+abbrev pub no_outcome : Outcome
+no_outcome = record { entries = []; asks = []; gone = false }
+
+abbrev pub outcome_of : Key → Effects → Outcome
+outcome_of k effects = record { entries = says k effects.lines; asks = effects.asks; gone = effects.gone }
+
+abbrev pub sends_first : ℕ → Program → List Closed → Machine → Outcome
+sends_first g p [] m = no_outcome
+sends_first g p (c ∷ cs) m = record { entries = entry.Mark (marker_of g p c.closing m) ∷ []; asks = []; gone = false }
+
+abbrev pub outcome : ℕ → Program → Happening → Machine → Outcome
+outcome g p (Admit n k time values) m = no_outcome
+outcome g p (Close c) m = no_outcome
+outcome g p (Fire n k) m = no_outcome
+outcome g p (Start k) m = outcome_of k (start_effects p (m.parts k))
+outcome g p (Serve k slot) m = no_outcome
+outcome g p (Deliver k slot) m = outcome_of k (deliver_effects slot (m.parts k))
+outcome g p Send m = sends_first g p m.unsent m
 
 -- the contexts that were made and not given up, waiting rows among them
 abbrev pub in_flight : Machine → ℕ

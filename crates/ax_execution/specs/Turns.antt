@@ -1,5 +1,5 @@
 -- The events of one key.
-use Rattle.std.specs.Prelude.{ℕ, suc, ◌+◌, ℤ, pos, int_le, List, [], ◌∷◌, ◌++◌, if◌then◌else◌, Option, Some, None}
+use Rattle.std.specs.Prelude.{ℕ, suc, ◌+◌, ℤ, pos, int_le, Bool, false, List, [], ◌∷◌, ◌++◌, if◌then◌else◌, Option, Some, None}
 use Rattle.ax_text.specs.declared.vocabulary.Request.{Request}
 use Rattle.ax_text.specs.declared.vocabulary.Answer.{Answer}
 use Rattle.ax_text.specs.Functions.{upd}
@@ -8,7 +8,7 @@ use Rattle.ax_text.specs.Cells.{answer_of, cells_after}
 use Rattle.ax_text.specs.Run.{Talk, times_after}
 use Rattle.ax_text.specs.Programs.{Program}
 use Rattle.ax_machine.specs.Sync.{without_least}
-use Rattle.ax_text.specs.Controls.{Rest, Turn, begin, give, is_done, request_at}
+use Rattle.ax_text.specs.Controls.{Rest, Ask', Turn, begin, give, is_done, request_at}
 use Rattle.ax_text.specs.Jobs.{Job, Group, firing_job, text_for}
 use Rattle.ax_machine.specs.KeySync.{Said}
 use Rattle.ax_execution.specs.Contexts.{Running, running_group, Stage, Unbegun, Begun, Context, new_context, row_context, Waiting, Row, Mark, Part, is_due, may_fire}
@@ -105,6 +105,47 @@ deliver_owner slot (Some c) part = deliver_stage c slot c.stage part
 
 abbrev pub deliver : ℕ → Part → Part
 deliver slot part = deliver_owner slot part.owner part
+
+-- what a callback does besides: the lines that it writes, the requests that it asks, in the order of their slots,
+-- and whether its context is given up behind it
+pub record Effects : Type 0 where
+  pub lines : List (List ℤ)
+  pub asks : List Ask'
+  pub gone : Bool
+
+abbrev pub no_effects : Effects
+no_effects = record { lines = []; asks = []; gone = false }
+
+abbrev pub effects_of : Turn → Effects
+effects_of t = record { lines = t.talk.lines; asks = t.asks; gone = is_done t.control }
+
+abbrev pub stage_starts : Program → Job → Stage → Effects
+stage_starts p j Unbegun = effects_of (begins p j)
+stage_starts p j (Begun r) = no_effects
+
+abbrev pub owner_starts : Program → Option Context → Effects
+owner_starts p None = no_effects
+owner_starts p (Some c) = stage_starts p c.job c.stage
+
+-- of the start of the owner
+abbrev pub start_effects : Program → Part → Effects
+start_effects p part = owner_starts p part.owner
+
+abbrev pub answer_gives : Job → Running → ℕ → Option Answer → Effects
+answer_gives j r slot None = no_effects
+answer_gives j r slot (Some a) = effects_of (gives j r slot a)
+
+abbrev pub stage_gives : ℕ → Job → Stage → Effects
+stage_gives slot j Unbegun = no_effects
+stage_gives slot j (Begun r) = answer_gives j r slot (r.answers slot)
+
+abbrev pub owner_gives : ℕ → Option Context → Effects
+owner_gives slot None = no_effects
+owner_gives slot (Some c) = stage_gives slot c.job c.stage
+
+-- of the delivery of an answer
+abbrev pub deliver_effects : ℕ → Part → Effects
+deliver_effects slot part = owner_gives slot part.owner
 
 -- the mark in front fires the key's least timer
 abbrev pub fire_due : ℕ → ℕ → ℤ → ℕ → List Waiting → List ℤ → Part → Part
