@@ -1,3 +1,4 @@
+pub mod Outside
 pub mod Skips
 pub mod Projected
 pub mod Counts

@@ -6,6 +6,7 @@ pub mod Contexts
 pub mod Rest
 pub mod Turns
 pub mod Machine
+pub mod Counts
 pub mod Allowed
 pub mod Tests
 pub mod Rows

@@ -1,5 +1,5 @@
 //! Laws of the machine, over all key groups, programs whose handlers are accepted, rules and runs from the start.
-ghost use Rattle.std.specs.Prelude.{◌≡◌, ℕ, suc, ◌≤◌, ◌<◌, List, ◌++◌, Bool, false, Option, Some, None};
+ghost use Rattle.std.specs.Prelude.{◌≡◌, ℕ, suc, ◌≤◌, ◌<◌, List, [], ◌++◌, true, false, Some, None};
 ghost use Rattle.ax_text.specs.Programs.{Program};
 ghost use Rattle.ax_machine.specs.Entries.{Key, lines_of};
 ghost use Rattle.ax_machine.specs.Events.{Event, without_skipped};
@@ -11,8 +11,10 @@ ghost use Rattle.ax_execution.specs.Accepted.{AreAccepted};
 ghost use Rattle.ax_execution.specs.Contexts.{Running, Begun, Context, rows_in};
 ghost use Rattle.ax_execution.specs.Origins.{Origin, IsOrigin, first, sync_from, key_sync_from, IsProjectedFrom};
 ghost use Rattle.ax_execution.specs.Rest.{settled, owed};
-ghost use Rattle.ax_execution.specs.Machine.{Happening, Rules, happens, taken, machine_from, machine_of, in_flight, work, IsAtRest, IsWork};
-ghost use Rattle.ax_execution.specs.Allowed.{Allowed, IsRun};
+ghost use Rattle.ax_execution.specs.Machine.{Machine, Happening, Rules, happens, outcome, taken, machine_from, machine_of, in_flight, work, IsAtRest, IsWork};
+ghost use Rattle.ax_execution.specs.Allowed.{NoneIsIdle, IsFinished, Allowed, IsRun};
+ghost use Rattle.ax_execution.specs.Counts.{epoch_count};
+ghost use Rattle.ax_execution.specs.Tests.{allowed, runs};
 
 /// Before the first event is an origin, and the plain threads from there are the plain threads.
 pub fn first_is_an_origin()
@@ -75,4 +77,32 @@ pub fn never_stuck()
 pub fn work_falls()
     ensures { (r : Rules) (g : ℕ) (p : Program) (from : Origin) (es : List Happening) (e : Happening) → AreAccepted p → IsOrigin p from → IsRun r g p es (machine_from from) → IsWork e → Allowed r e (machine_of g p from es)
         → suc (work p (happens g p e (machine_of g p from es))) ≡ work p (machine_of g p from es) }
+{}
+
+/// Where nothing is in flight, every marker is sent and no key may fire, the machine is at rest, and only there.
+pub fn rest_is_seen_from_outside()
+    ensures enough { (r : Rules) (g : ℕ) (p : Program) (from : Origin) (es : List Happening) → AreAccepted p → IsOrigin p from → IsRun r g p es (machine_from from)
+        → in_flight (machine_of g p from es) ≡ 0 → (machine_of g p from es).unsent ≡ [] → NoneIsIdle (machine_of g p from es) → IsAtRest (machine_of g p from es) }
+    ensures needed { (m : Machine) → IsAtRest m → (in_flight m ≡ 0) × (m.unsent ≡ []) × NoneIsIdle m }
+{}
+
+/// A closed epoch is finished exactly where neither it nor an earlier one has a context or a mark.
+pub fn finished_epochs_count_nothing()
+    ensures finished { (e : ℕ) (m : Machine) → IsFinished e m → (u : ℕ) → u ≤ e → epoch_count u m ≡ 0 }
+    ensures counts { (r : Rules) (g : ℕ) (p : Program) (from : Origin) (es : List Happening) (e : ℕ) → AreAccepted p → IsOrigin p from → IsRun r g p es (machine_from from)
+        → ((u : ℕ) → u ≤ e → epoch_count u (machine_of g p from es) ≡ 0) → IsFinished e (machine_of g p from es) }
+{}
+
+/// What was written grows by just what an event's outcome says.
+pub fn outcomes_are_written()
+    ensures { (g : ℕ) (p : Program) (e : Happening) (m : Machine) → (happens g p e m).written ≡ m.written ++ (outcome g p e m).entries }
+{}
+
+/// Which events are allowed is decided by a test over the keys of rows.
+pub fn allowed_is_decided()
+    ensures passes { (r : Rules) (m : Machine) (e : Happening) → Allowed r e m → allowed r e m ≡ true }
+    ensures is_so { (r : Rules) (g : ℕ) (p : Program) (from : Origin) (es : List Happening) (e : Happening) → AreAccepted p → IsOrigin p from → IsRun r g p es (machine_from from)
+        → allowed r e (machine_of g p from es) ≡ true → Allowed r e (machine_of g p from es) }
+    ensures run { (r : Rules) (g : ℕ) (p : Program) (from : Origin) (es : List Happening) → AreAccepted p → IsOrigin p from
+        → runs r g p es (machine_from from) ≡ true → IsRun r g p es (machine_from from) }
 {}
