@@ -82,7 +82,7 @@ total_same f g (k ∷ ks) h = let a : g k ≡ f k = h k in let b : total ks g �
 
 -- where the share of one key alone changes
 module _ (k : Key) (f g : Key → ℕ) (ks : List Key) (s : IsStrictlySortedBy key_cmp ks) (same : (j : Key) → bytes_eq k j ≡ false → g j ≡ f j) where
-  changes : list_any (bytes_eq k) ks ≡ true → total ks g + f k ≡ total ks f + g k
+  pub changes : list_any (bytes_eq k) ks ≡ true → total ks g + f k ≡ total ks f + g k
   changes m = total_changes k f g ks same (once_from k ks s m)
 
   pub at_most : g k ≤ f k → total ks g ≤ total ks f

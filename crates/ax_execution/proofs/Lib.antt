@@ -1,3 +1,4 @@
+pub mod Numbers
 pub mod Outside
 pub mod Skips
 pub mod Projected

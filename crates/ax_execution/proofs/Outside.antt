@@ -1,19 +1,23 @@
 -- What is seen of the machine from outside: rest, finished epochs, and what an event writes.
-use Rattle.std.proofs.Common.{◌≡◌, ℕ, suc, ◌+◌, ◌≤◌, ◌<◌, nat_eq, nat_lt, List, [], ◌∷◌, ◌++◌, Bool, true, false, cond, Option, Some, None, refl, sym, ap, ap₂, ◌∙◌, arith, subst, append-nil}
+use Rattle.std.proofs.Common.{◌≡◌, ℕ, suc, ◌+◌, ◌≤◌, ◌<◌, nat_eq, nat_lt, List, [], ◌∷◌, ◌++◌, length, Bool, true, false, cond, Option, Some, None, refl, sym, ap, ap₂, ◌∙◌, arith, subst, append-nil}
 use Rattle.std.proofs.lemmas.Bool.{eq-eqb, ne_eqb, ltb-true, ltb-false, eqb-true}
 use Rattle.std.specs.Str.{bytes_eq}
 use Rattle.std.specs.List.{list_any}
 use Rattle.ax_text.specs.Programs.{Program}
-use Rattle.ax_text.specs.Controls.{is_done}
+use Rattle.ax_text.specs.Controls.{Control, slots, request_at}
+use Rattle.ax_text.specs.declared.vocabulary.Request.{Request}
+use Rattle.ax_text.specs.Prints.{has}
+use Rattle.ax_execution.proofs.Handles.{Handles}
+use Rattle.ax_execution.proofs.Wakeful.{slot_waits}
 use Rattle.ax_machine.specs.Entries.{Key}
-use Rattle.ax_execution.specs.Contexts.{Context, Waiting, Row, Mark, Part, contexts_in, owners, rows_in, is_idle_with, is_idle}
+use Rattle.ax_execution.specs.Contexts.{Running, Stage, Unbegun, Begun, Context, Waiting, Row, Mark, Part, contexts_in, owners, rows_in, is_idle_with, is_idle}
 use Rattle.ax_execution.specs.Sums.{total}
 use Rattle.ax_execution.specs.Machine.{ByWatermark, ByBarrier, Closed, Machine, Happening, Admit, Close, Fire, Start, Serve, Deliver, Send, Rules, send_first, happens, sends_first, outcome, in_flight, IsAtRest}
 use Rattle.ax_execution.specs.Allowed.{NoneIsIdle, OwnedLater, WaitLater, IsFinished}
-use Rattle.ax_execution.specs.Counts.{one_at, owner_of_epoch, waiting_of_epoch, part_of_epoch, epoch_count}
-use Rattle.ax_execution.proofs.Upto.{by_cases}
+use Rattle.ax_execution.specs.Counts.{references, one_at, owner_of_epoch, waiting_of_epoch, part_of_epoch, epoch_count}
+use Rattle.ax_execution.proofs.Upto.{by_cases, StageGood, OwnerGood}
 use Rattle.ax_execution.proofs.KeySums.{in_total}
-use Rattle.ax_execution.proofs.Stuck.{zeros}
+use Rattle.ax_execution.proofs.Stuck.{zeros, StageWakes, IsAwake}
 use Rattle.ax_execution.proofs.Orderly.{IsFree, IsOrderly}
 
 false_true : false ≡ true → ⊥
@@ -117,3 +121,22 @@ counts_finished r m o e h k = by_cases (list_any (bytes_eq k) m.keys)
       waiting_later e (m.parts k).waiting (λ u a. let y : part_of_epoch u (m.parts k) ≤ epoch_count u m = in_total m.keys (λ j. part_of_epoch u (m.parts j)) k x in let z : epoch_count u m ≡ 0 = h u a in omega arith),
     ))
     (λ x. (subst (OwnedLater e) (sym (o.absent k x).owner) tt, subst (WaitLater e) (sym (o.absent k x).waiting) tt))
+
+-- references
+
+has_slot : (c : Control) (slot : ℕ) (q : Request) → request_at c slot ≡ Some q → 0 < length (slots c)
+has_slot c slot q e = of (slots c) (slot_waits c slot q e)
+  where
+    of : (xs : List ℕ) → has slot xs ≡ true → 0 < length xs
+    of [] h = absurd (false_true h)
+    of (x ∷ xs) h = omega arith
+
+module _ (p : Program) (Good : Running → Type 0) (H : Handles p Good) where
+  stage_referred : (st : Stage) → StageGood Good st → StageWakes st → 0 < references st
+  unfolding StageGood StageWakes
+  stage_referred Unbegun g w = omega arith
+  stage_referred (Begun r) g w = let x = H.waits r g w in has_slot r.control x.0 x.1 x.2
+
+  pub owner_referred : (c : Context) → OwnerGood Good (Some c) → IsAwake (Some c) → 0 < references c.stage
+  unfolding OwnerGood IsAwake
+  owner_referred c g w = stage_referred c.stage g w

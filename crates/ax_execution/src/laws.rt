@@ -1,5 +1,5 @@
 //! Laws of the machine, over all key groups, programs whose handlers are accepted, rules and runs from the start.
-ghost use Rattle.std.specs.Prelude.{◌≡◌, ℕ, suc, ◌≤◌, ◌<◌, List, [], ◌++◌, true, false, Some, None};
+ghost use Rattle.std.specs.Prelude.{◌≡◌, ℕ, suc, ◌≤◌, ◌<◌, ℤ, List, [], ◌∷◌, ◌++◌, true, false, Some, None};
 ghost use Rattle.ax_text.specs.Programs.{Program};
 ghost use Rattle.ax_machine.specs.Entries.{Key, lines_of};
 ghost use Rattle.ax_machine.specs.Events.{Event, without_skipped};
@@ -8,12 +8,12 @@ ghost use Rattle.ax_machine.specs.Sync.{sync};
 ghost use Rattle.ax_machine.specs.Lawful.{Lawful, LawfulSoFar};
 ghost use Rattle.ax_text.specs.Controls.{is_done};
 ghost use Rattle.ax_execution.specs.Accepted.{AreAccepted};
-ghost use Rattle.ax_execution.specs.Contexts.{Running, Begun, Context, rows_in};
+ghost use Rattle.ax_execution.specs.Contexts.{Running, Begun, Context, Waiting, Mark, rows_in, may_fire};
 ghost use Rattle.ax_execution.specs.Origins.{Origin, IsOrigin, first, sync_from, key_sync_from, IsProjectedFrom};
 ghost use Rattle.ax_execution.specs.Rest.{settled, owed};
 ghost use Rattle.ax_execution.specs.Machine.{Machine, Happening, Rules, happens, outcome, taken, machine_from, machine_of, in_flight, work, IsAtRest, IsWork};
 ghost use Rattle.ax_execution.specs.Allowed.{NoneIsIdle, IsFinished, Allowed, IsRun};
-ghost use Rattle.ax_execution.specs.Counts.{epoch_count};
+ghost use Rattle.ax_execution.specs.Counts.{references, epoch_count, number_count};
 ghost use Rattle.ax_execution.specs.Tests.{allowed, runs};
 
 /// Before the first event is an origin, and the plain threads from there are the plain threads.
@@ -58,13 +58,21 @@ pub fn written_is_lawful()
 {}
 
 /// Never more contexts are in flight than the limit; rows wait only behind an owner, or behind a key that must fire;
-/// and a handler that has begun waits for an answer.
+/// and a handler that has begun waits for an answer. No two contexts have one number. The mark in front of a key without owner
+/// is due. The owner of a key has a reference left: a callback that hasn't ended.
 pub fn one_owner_and_limit()
     ensures limit { (r : Rules) (g : ℕ) (p : Program) (from : Origin) (es : List Happening) → AreAccepted p → IsOrigin p from → IsRun r g p es (machine_from from) → in_flight (machine_of g p from es) ≤ r.limit }
     ensures rows { (r : Rules) (g : ℕ) (p : Program) (from : Origin) (es : List Happening) (k : Key) → AreAccepted p → IsOrigin p from → IsRun r g p es (machine_from from) → (machine_of g p from es).must ≡ None
         → ((machine_of g p from es).parts k).owner ≡ None → rows_in ((machine_of g p from es).parts k).waiting ≡ 0 }
     ensures awake { (r : Rules) (g : ℕ) (p : Program) (from : Origin) (es : List Happening) (k : Key) (c : Context) (running : Running) → AreAccepted p → IsOrigin p from → IsRun r g p es (machine_from from)
         → ((machine_of g p from es).parts k).owner ≡ Some c → c.stage ≡ Begun running → is_done running.control ≡ false }
+    ensures numbers { (r : Rules) (g : ℕ) (p : Program) (from : Origin) (es : List Happening) (n : ℕ) → AreAccepted p → IsOrigin p from → IsRun r g p es (machine_from from)
+        → number_count n (machine_of g p from es) ≤ 1 }
+    ensures idle { (r : Rules) (g : ℕ) (p : Program) (from : Origin) (es : List Happening) (k : Key) (e : ℕ) (w : ℤ) (more : ℕ) (rest : List Waiting) → AreAccepted p → IsOrigin p from → IsRun r g p es (machine_from from)
+        → ((machine_of g p from es).parts k).owner ≡ None → ((machine_of g p from es).parts k).waiting ≡ Mark e w more ∷ rest
+        → may_fire w more ((machine_of g p from es).parts k).said.state.times ≡ true }
+    ensures referred { (r : Rules) (g : ℕ) (p : Program) (from : Origin) (es : List Happening) (k : Key) (c : Context) → AreAccepted p → IsOrigin p from → IsRun r g p es (machine_from from)
+        → ((machine_of g p from es).parts k).owner ≡ Some c → 0 < references c.stage }
 {}
 
 /// With room for one context the machine is never stuck: where no event is allowed that takes nothing of the input, it is at rest.

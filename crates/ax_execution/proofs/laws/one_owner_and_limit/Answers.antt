@@ -1,9 +1,13 @@
-use Rattle.std.proofs.Common.{◌≡◌, Option, Some, sym, ◌∙◌, subst, ◌⊎◌, inl, inr}
-use Rattle.ax_execution.specs.Contexts.{Context, rows_in}
+use Rattle.std.proofs.Common.{◌≡◌, List, Option, Some, sym, ◌∙◌, subst, ◌⊎◌, inl, inr}
+use Rattle.ax_execution.specs.Contexts.{Context, Waiting, rows_in}
 use Rattle.ax_execution.specs.Machine.{Machine, machine_of}
 use Rattle.ax_execution.proofs.Orderly.{IsOrderly, always_orderly}
 use Rattle.ax_execution.proofs.Handlers.{Good, handles}
-use Rattle.ax_execution.proofs.Stuck.{IsOrdered, StageWakes, IsAwake, none_some}
+use Rattle.ax_execution.proofs.Stuck.{FrontFires, IsOrdered, StageWakes, IsAwake, none_some}
+use Rattle.ax_execution.proofs.Alone.{goes_as_alone}
+use Rattle.ax_execution.proofs.Numbers.{always_apart}
+use Rattle.ax_execution.proofs.Outside.{owner_referred}
+use Rattle.ax_execution.proofs.Upto.{OwnerGood}
 use Rattle.ax_execution.proofs.laws.one_owner_and_limit.Goals as goal
 
 pub returns-clause-limit : goal.returns-clause-limit
@@ -32,3 +36,20 @@ returns-clause-awake c r g p from es k it running accepted fits h owner stage = 
 
     awake : StageWakes it.stage
     awake = subst IsAwake owner ((always_orderly g p Good (handles p accepted) from fits r es h).sound.awake k)
+
+pub returns-clause-numbers : goal.returns-clause-numbers
+returns-clause-numbers c r g p from es n accepted fits h = always_apart g p Good (handles p accepted) from fits r es h n
+
+pub returns-clause-idle : goal.returns-clause-idle
+unfolding IsOrdered FrontFires
+returns-clause-idle c r g p from es k e w more rest accepted fits h free front =
+    subst (λ (is : List Waiting). FrontFires is (m.parts k).said.state.times) front
+    (subst (λ (o : Option Context). IsOrdered m.must k o (m.parts k).waiting (m.parts k).said.state.times) free ((always_orderly g p Good (handles p accepted) from fits r es h).sound.ordered k)).0
+  where
+    m : Machine
+    m = machine_of g p from es
+
+pub returns-clause-referred : goal.returns-clause-referred
+returns-clause-referred c r g p from es k it accepted fits h owner = owner_referred p Good (handles p accepted) it
+    (subst (OwnerGood Good) owner ((goes_as_alone g p Good (handles p accepted) from fits r es h).good k))
+    (subst IsAwake owner ((always_orderly g p Good (handles p accepted) from fits r es h).sound.awake k))
