@@ -5,6 +5,7 @@ pub mod Sums
 pub mod Contexts
 pub mod Rest
 pub mod Turns
+pub mod KeyControls
 pub mod Machine
 pub mod Counts
 pub mod Allowed

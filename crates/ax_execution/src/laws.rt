@@ -1,5 +1,6 @@
 //! Laws of the machine, over all key groups, programs whose handlers are accepted, rules and runs from the start.
 ghost use Rattle.std.specs.Prelude.{◌≡◌, ℕ, suc, ◌≤◌, ◌<◌, ℤ, List, [], ◌∷◌, ◌++◌, true, false, Some, None};
+ghost use Rattle.ax_text.specs.Exprs.{Facts};
 ghost use Rattle.ax_text.specs.Programs.{Program};
 ghost use Rattle.ax_machine.specs.Entries.{Key, lines_of};
 ghost use Rattle.ax_machine.specs.Events.{Event, without_skipped};
@@ -8,8 +9,10 @@ ghost use Rattle.ax_machine.specs.Sync.{sync};
 ghost use Rattle.ax_machine.specs.Lawful.{Lawful, LawfulSoFar};
 ghost use Rattle.ax_text.specs.Controls.{is_done};
 ghost use Rattle.ax_execution.specs.Accepted.{AreAccepted};
-ghost use Rattle.ax_execution.specs.Contexts.{Running, Begun, Context, Waiting, Mark, rows_in, may_fire};
+ghost use Rattle.ax_execution.specs.Contexts.{Running, Begun, Context, Waiting, Mark, Part, rows_in, may_fire};
+ghost use Rattle.ax_execution.specs.KeyControls.{control_of, bare, SeesControl, owner_answer, keeps_answer};
 ghost use Rattle.ax_execution.specs.Origins.{Origin, IsOrigin, first, sync_from, key_sync_from, IsProjectedFrom};
+ghost use Rattle.ax_execution.specs.Turns.{admit, mark, fire, start, serve, deliver, start_effects, deliver_effects};
 ghost use Rattle.ax_execution.specs.Rest.{settled, owed};
 ghost use Rattle.ax_execution.specs.Machine.{Machine, Happening, Rules, happens, outcome, taken, machine_from, machine_of, in_flight, work, IsAtRest, IsWork};
 ghost use Rattle.ax_execution.specs.Allowed.{NoneIsIdle, IsFinished, Allowed, IsRun};
@@ -113,4 +116,17 @@ pub fn allowed_is_decided()
         → allowed r e (machine_of g p from es) ≡ true → Allowed r e (machine_of g p from es) }
     ensures run { (r : Rules) (g : ℕ) (p : Program) (from : Origin) (es : List Happening) → AreAccepted p → IsOrigin p from
         → runs r g p es (machine_from from) ≡ true → IsRun r g p es (machine_from from) }
+{}
+
+/// Each event of a key but Serve looks at its control alone, at no cell and at nothing that was said; so do the lines and the
+/// requests of a callback. Serve takes one answer of the cells.
+pub fn events_see_the_control()
+    ensures admit { (n e : ℕ) (f : Facts) → SeesControl (admit n e f) }
+    ensures mark { (e : ℕ) (w : ℤ) (more : ℕ) → SeesControl (mark e w more) }
+    ensures fire { (n : ℕ) → SeesControl (fire n) }
+    ensures start { (p : Program) → SeesControl (start p) }
+    ensures deliver { (slot : ℕ) → SeesControl (deliver slot) }
+    ensures serve { (slot : ℕ) (part : Part) → control_of (serve slot part) ≡ keeps_answer slot (owner_answer slot part.owner part.said.state.cells) (control_of part) }
+    ensures started { (p : Program) (part : Part) → start_effects p part ≡ start_effects p (bare (control_of part)) }
+    ensures delivered { (slot : ℕ) (part : Part) → deliver_effects slot part ≡ deliver_effects slot (bare (control_of part)) }
 {}
