@@ -1,3 +1,4 @@
+pub mod Measure
 pub mod Cut
 pub mod Numbers
 pub mod Outside

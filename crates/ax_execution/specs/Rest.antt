@@ -34,7 +34,7 @@ rest_items p (i ∷ is) s = rest_items p is (rest_item p i s)
 abbrev pub settled : Program → Part → Said
 settled p part = rest_items p part.waiting (rest_owner p part.owner part.said)
 
--- the lines that are still to be written
+-- a context that has said nothing so far
 abbrev pub silent_stage : Stage → Stage
 silent_stage Unbegun = Unbegun
 silent_stage (Begun r) = Begun (record { control = r.control; names = r.names; answers = r.answers; lines = []; served = 0 })
@@ -43,8 +43,13 @@ abbrev pub silent : Option Context → Option Context
 silent None = None
 silent (Some c) = Some (record { number = c.number; epoch = c.epoch; job = c.job; stage = silent_stage c.stage })
 
+-- the same key with nothing said so far
+abbrev pub silent_part : Part → Part
+silent_part part = record { owner = silent part.owner; waiting = part.waiting; said = record { state = part.said.state; groups = [] } }
+
+-- the lines that are still to be written
 abbrev pub owed : Program → Part → List (List ℤ)
-owed p part = lines_in (settled p (record { owner = silent part.owner; waiting = part.waiting; said = record { state = part.said.state; groups = [] } })).groups
+owed p part = lines_in (settled p (silent_part part)).groups
 
 -- one for each context that hasn't begun and each answer that was served and not delivered
 abbrev pub one_if : Option Answer → ℕ

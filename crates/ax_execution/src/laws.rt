@@ -13,7 +13,7 @@ ghost use Rattle.ax_execution.specs.Contexts.{Running, Begun, Context, Waiting, 
 ghost use Rattle.ax_execution.specs.KeyControls.{control_of, bare, SeesControl, owner_answer, keeps_answer};
 ghost use Rattle.ax_execution.specs.Origins.{Origin, IsOrigin, first, sync_from, key_sync_from, IsProjectedFrom};
 ghost use Rattle.ax_execution.specs.Turns.{admit, mark, fire, start, serve, deliver, start_effects, deliver_effects};
-ghost use Rattle.ax_execution.specs.Rest.{settled, owed};
+ghost use Rattle.ax_execution.specs.Rest.{settled, silent_part, owed, part_work};
 ghost use Rattle.ax_execution.specs.Machine.{Machine, Happening, Rules, happens, outcome, taken, machine_from, machine_of, in_flight, work, IsAtRest, IsWork};
 ghost use Rattle.ax_execution.specs.Allowed.{NoneIsIdle, IsFinished, Allowed, IsRun};
 ghost use Rattle.ax_execution.specs.Counts.{references, epoch_count, number_count};
@@ -84,10 +84,12 @@ pub fn never_stuck()
         → ((e : Happening) → IsWork e → Allowed r e (machine_of g p from es) → ⊥) → IsAtRest (machine_of g p from es) }
 {}
 
-/// Each event that takes nothing of the input takes exactly one from the work left.
+/// Each event that takes nothing of the input takes exactly one from the work left. What was said so far is no part of it:
+/// it is computed from the control and the cells alone.
 pub fn work_falls()
-    ensures { (r : Rules) (g : ℕ) (p : Program) (from : Origin) (es : List Happening) (e : Happening) → AreAccepted p → IsOrigin p from → IsRun r g p es (machine_from from) → IsWork e → Allowed r e (machine_of g p from es)
+    ensures falls { (r : Rules) (g : ℕ) (p : Program) (from : Origin) (es : List Happening) (e : Happening) → AreAccepted p → IsOrigin p from → IsRun r g p es (machine_from from) → IsWork e → Allowed r e (machine_of g p from es)
         → suc (work p (happens g p e (machine_of g p from es))) ≡ work p (machine_of g p from es) }
+    ensures silent { (p : Program) (part : Part) → AreAccepted p → part_work p part ≡ part_work p (silent_part part) }
 {}
 
 /// Where nothing is in flight, every marker is sent and no key may fire, the machine is at rest, and only there.
