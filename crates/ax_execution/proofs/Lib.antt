@@ -1,3 +1,4 @@
+pub mod GivenUp
 pub mod Measure
 pub mod Cut
 pub mod Numbers

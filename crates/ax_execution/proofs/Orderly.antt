@@ -53,7 +53,7 @@ pub record IsFree (q : Part) : Type 0 where
 
 -- a callback
 
-handed_counts : (is : List Waiting) (s : Said) → (contexts_in (handed is s) ≡ rows_in is) × IsAwake (handed is s).owner
+pub handed_counts : (is : List Waiting) (s : Said) → (contexts_in (handed is s) ≡ rows_in is) × IsAwake (handed is s).owner
 unfolding IsAwake StageWakes
 handed_counts [] s = (refl, tt)
 handed_counts (Row n e f ∷ is) s = (refl, tt)

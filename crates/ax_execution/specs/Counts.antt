@@ -1,5 +1,5 @@
 -- The references of a context, and what of an epoch is left.
-use Rattle.std.specs.Prelude.{ℕ, ◌+◌, nat_eq, List, [], ◌∷◌, length, if◌then◌else◌, Option, Some, None}
+use Rattle.std.specs.Prelude.{ℕ, ◌+◌, nat_eq, List, [], ◌∷◌, length, Bool, true, false, if◌then◌else◌, Option, Some, None}
 use Rattle.ax_text.specs.Controls.{slots}
 use Rattle.ax_execution.specs.Contexts.{Stage, Unbegun, Begun, Context, Waiting, Row, Mark, Part}
 use Rattle.ax_execution.specs.Machine.{Machine}
@@ -44,3 +44,8 @@ part_numbered n part = owner_numbered n part.owner + rows_numbered n part.waitin
 
 abbrev pub number_count : ℕ → Machine → ℕ
 number_count n m = total m.keys (λ k. part_numbered n (m.parts k))
+
+-- one for a context that is given up
+abbrev pub one_if_gone : Bool → ℕ
+one_if_gone true = 1
+one_if_gone false = 0

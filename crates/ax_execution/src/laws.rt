@@ -1,5 +1,5 @@
 //! Laws of the machine, over all key groups, programs whose handlers are accepted, rules and runs from the start.
-ghost use Rattle.std.specs.Prelude.{◌≡◌, ℕ, suc, ◌≤◌, ◌<◌, ℤ, List, [], ◌∷◌, ◌++◌, true, false, Some, None};
+ghost use Rattle.std.specs.Prelude.{◌≡◌, ℕ, suc, ◌+◌, ◌≤◌, ◌<◌, ℤ, List, [], ◌∷◌, ◌++◌, true, false, Some, None};
 ghost use Rattle.ax_text.specs.Exprs.{Facts};
 ghost use Rattle.ax_text.specs.Programs.{Program};
 ghost use Rattle.ax_machine.specs.Entries.{Key, lines_of};
@@ -14,9 +14,9 @@ ghost use Rattle.ax_execution.specs.KeyControls.{control_of, bare, SeesControl, 
 ghost use Rattle.ax_execution.specs.Origins.{Origin, IsOrigin, first, sync_from, key_sync_from, IsProjectedFrom};
 ghost use Rattle.ax_execution.specs.Turns.{admit, mark, fire, start, serve, deliver, start_effects, deliver_effects};
 ghost use Rattle.ax_execution.specs.Rest.{settled, silent_part, owed, part_work};
-ghost use Rattle.ax_execution.specs.Machine.{Machine, Happening, Rules, happens, outcome, taken, machine_from, machine_of, in_flight, work, IsAtRest, IsWork};
+ghost use Rattle.ax_execution.specs.Machine.{Machine, Happening, Start, Serve, Deliver, Rules, happens, outcome, taken, machine_from, machine_of, in_flight, work, IsAtRest, IsWork};
 ghost use Rattle.ax_execution.specs.Allowed.{NoneIsIdle, IsFinished, Allowed, IsRun};
-ghost use Rattle.ax_execution.specs.Counts.{references, epoch_count, number_count};
+ghost use Rattle.ax_execution.specs.Counts.{one_if_gone, references, epoch_count, number_count};
 ghost use Rattle.ax_execution.specs.Tests.{allowed, runs};
 
 /// Before the first event is an origin, and the plain threads from there are the plain threads.
@@ -76,6 +76,17 @@ pub fn one_owner_and_limit()
         → may_fire w more ((machine_of g p from es).parts k).said.state.times ≡ true }
     ensures referred { (r : Rules) (g : ℕ) (p : Program) (from : Origin) (es : List Happening) (k : Key) (c : Context) → AreAccepted p → IsOrigin p from → IsRun r g p es (machine_from from)
         → ((machine_of g p from es).parts k).owner ≡ Some c → 0 < references c.stage }
+{}
+
+/// A context is given up exactly at the event whose outcome says so: then one fewer is in flight, and else, behind Start, Serve and
+/// Deliver, as many as before.
+pub fn contexts_are_given_up()
+    ensures start { (r : Rules) (g : ℕ) (p : Program) (from : Origin) (es : List Happening) (k : Key) → AreAccepted p → IsOrigin p from → IsRun r g p es (machine_from from) → Allowed r (Start k) (machine_of g p from es)
+        → in_flight (happens g p (Start k) (machine_of g p from es)) + one_if_gone (outcome g p (Start k) (machine_of g p from es)).gone ≡ in_flight (machine_of g p from es) }
+    ensures serve { (r : Rules) (g : ℕ) (p : Program) (from : Origin) (es : List Happening) (k : Key) (slot : ℕ) → AreAccepted p → IsOrigin p from → IsRun r g p es (machine_from from) → Allowed r (Serve k slot) (machine_of g p from es)
+        → in_flight (happens g p (Serve k slot) (machine_of g p from es)) ≡ in_flight (machine_of g p from es) }
+    ensures deliver { (r : Rules) (g : ℕ) (p : Program) (from : Origin) (es : List Happening) (k : Key) (slot : ℕ) → AreAccepted p → IsOrigin p from → IsRun r g p es (machine_from from) → Allowed r (Deliver k slot) (machine_of g p from es)
+        → in_flight (happens g p (Deliver k slot) (machine_of g p from es)) + one_if_gone (outcome g p (Deliver k slot) (machine_of g p from es)).gone ≡ in_flight (machine_of g p from es) }
 {}
 
 /// With room for one context the machine is never stuck: where no event is allowed that takes nothing of the input, it is at rest.
