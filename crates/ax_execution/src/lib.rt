@@ -3,5 +3,8 @@
 //! The definitions stand in `specs/`. The functions of `laws` and `rows` do nothing; their contracts are laws over the definitions.
 #![tactic(auto)]
 
+pub mod constants;
 pub mod laws;
 pub mod rows;
+
+pub use constants::{first_epoch, run_weight};
