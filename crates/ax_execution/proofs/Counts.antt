@@ -13,7 +13,6 @@ use Rattle.ax_text.specs.Sound.{Split}
 use Rattle.ax_text.proofs.Keeps.{by_cases}
 use Rattle.ax_text.proofs.Steps.{upd_at, upd_off, mem_one, mem_two, mem_either, without_keeps, begin_ok, resume_ok, Goes}
 use Rattle.ax_execution.specs.Rest.{one_if, served_at}
-use Rattle.ax_execution.proofs.Wakeful.{slot_waits}
 
 none_some : {A : Type 0} {x : A} → None ≡ Some x → ⊥
 none_some h = cc h

@@ -1,5 +1,5 @@
 -- Each event but Serve looks at the control of a key alone; Serve looks at its cells for one answer.
-use Rattle.std.proofs.Common.{◌≡◌, ℕ, zero, suc, ℤ, int_le, List, [], ◌∷◌, Bool, true, false, cond, Option, Some, None, refl, sym, ap, ◌∙◌}
+use Rattle.std.proofs.Common.{◌≡◌, ℕ, zero, suc, ℤ, int_le, List, [], ◌∷◌, Bool, true, false, cond, Option, Some, None, refl, ap, ◌∙◌}
 use Rattle.ax_text.specs.declared.vocabulary.Request.{Request}
 use Rattle.ax_text.specs.declared.vocabulary.Answer.{Answer}
 use Rattle.ax_text.specs.Functions.{upd}
@@ -10,8 +10,8 @@ use Rattle.ax_text.specs.Controls.{is_done, request_at}
 use Rattle.ax_machine.specs.KeySync.{Said}
 use Rattle.ax_execution.specs.Contexts.{Running, Stage, Unbegun, Begun, Context, Waiting, Row, Mark, Part, running_group, is_due, may_fire}
 use Rattle.ax_execution.specs.Rest.{silent_stage, silent}
-use Rattle.ax_execution.specs.Turns.{handed, timed, closed_with, left_by, staged, called_back, no_answers, begins, gives, start_owner, start_effects, owner_starts, serve_request, serve_stage, serve_owner, serve, start, give_answer, deliver_owner, deliver, deliver_effects, owner_gives, answer_gives, fire_due, fire_front, fire, admit_at, admit, mark_at, mark}
-use Rattle.ax_execution.specs.KeyControls.{KeyControl, control_of, bare, on_control, SeesControl, answer_to, stage_answer, owner_answer, stage_keeps, owner_keeps, keeps_answer}
+use Rattle.ax_execution.specs.Turns.{handed, timed, closed_with, left_by, staged, called_back, no_answers, begins, gives, start_owner, owner_starts, serve_request, serve_owner, serve, start, give_answer, deliver_owner, deliver, owner_gives, answer_gives, fire_due, fire_front, fire, admit_at, admit, mark_at, mark}
+use Rattle.ax_execution.specs.KeyControls.{control_of, SeesControl, answer_to, stage_answer, owner_answer, keeps_answer}
 
 abbrev key : Option Context → List Waiting → Said → Part
 key o is s = record { owner = o; waiting = is; said = s }

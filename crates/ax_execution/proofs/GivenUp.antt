@@ -1,5 +1,5 @@
 -- A callback gives up its context exactly where nothing of it is left.
-use Rattle.std.proofs.Common.{◌≡◌, ℕ, suc, ◌+◌, ◌<◌, List, [], ◌∷◌, length, Bool, true, false, cond, Option, Some, None, refl, sym, ap, ◌∙◌, arith}
+use Rattle.std.proofs.Common.{◌≡◌, ℕ, ◌+◌, List, [], Bool, true, false, cond, Option, Some, None, refl, sym, ap, ◌∙◌, arith}
 use Rattle.std.proofs.lemmas.Bool.{cond-true, cond-false}
 use Rattle.std.specs.Str.{bytes_eq}
 use Rattle.std.specs.List.{list_any}
@@ -17,7 +17,7 @@ use Rattle.ax_execution.specs.Contexts.{Running, running_group, Stage, Unbegun, 
 use Rattle.ax_execution.specs.Sums.{total}
 use Rattle.ax_execution.specs.Counts.{one_if_gone}
 use Rattle.ax_execution.specs.Turns.{handed, timed, closed_with, left_by, staged, called_back, no_answers, begins, gives, stage_starts, owner_starts, start_effects, start_stage, start_owner, start, serve_request, serve_stage, serve_owner, serve, answer_gives, stage_gives, owner_gives, deliver_effects, give_answer, deliver_stage, deliver_owner, deliver}
-use Rattle.ax_execution.specs.Machine.{Machine, Happening, Start, Serve, Deliver, Rules, part_at, happens, outcome, in_flight}
+use Rattle.ax_execution.specs.Machine.{Machine, Start, Serve, Deliver, Rules, part_at, happens, outcome, in_flight}
 use Rattle.ax_execution.specs.Allowed.{StageUnbegun, StageAsks, StageHas, Allowed}
 use Rattle.ax_execution.proofs.Upto.{part_of}
 use Rattle.ax_execution.proofs.KeySums.{changes}

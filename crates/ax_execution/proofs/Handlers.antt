@@ -1,20 +1,19 @@
 -- The handlers of accepted programs keep what the machine needs of them.
-use Rattle.std.proofs.Common.{◌≡◌, ℕ, suc, ◌+◌, ℤ, pos, List, [], ◌∷◌, ◌++◌, Bool, true, false, nat_eq, Option, Some, None, refl, sym, ap, ◌∙◌, arith}
+use Rattle.std.proofs.Common.{◌≡◌, ℕ, ◌+◌, ℤ, pos, List, [], ◌∷◌, ◌++◌, true, false, nat_eq, Option, Some, None, refl, sym, ap, ◌∙◌, arith}
 use Rattle.std.proofs.lemmas.List.{append-nil}
 use Rattle.std.proofs.lemmas.Bool.{both_ways, eqb-true}
 use Rattle.ax_text.specs.declared.vocabulary.Handler.{Handler}
 use Rattle.ax_text.specs.declared.vocabulary.Handler.TheVariants as handler
-use Rattle.ax_text.specs.declared.vocabulary.Request.{Request}
 use Rattle.ax_text.specs.declared.vocabulary.Answer.{Answer}
 use Rattle.ax_text.specs.declared.vocabulary.TimerOp.{TimerOp}
 use Rattle.ax_text.specs.Functions.{upd}
 use Rattle.ax_text.specs.Exprs.{Facts, Names}
-use Rattle.ax_text.specs.Cells.{Cells, answer_of, cells_after}
+use Rattle.ax_text.specs.Cells.{Cells}
 use Rattle.ax_text.specs.Texts.{Text}
 use Rattle.ax_text.specs.Programs.{Program}
-use Rattle.ax_text.specs.Run.{Talk, World, run, begun, time_after, times_after}
+use Rattle.ax_text.specs.Run.{Talk, World, run, time_after, times_after}
 use Rattle.ax_text.specs.Prints.{has, is_accepted}
-use Rattle.ax_text.specs.Controls.{Rest, Control, Turn, Answers, slots, is_done, begin, without, give, request_at, left}
+use Rattle.ax_text.specs.Controls.{Rest, Control, Turn, Answers, slots, begin, without, give, left}
 use Rattle.ax_text.specs.Footprints.{ControlFits}
 use Rattle.ax_text.specs.Sound.{Split, everything}
 use Rattle.ax_text.specs.Jobs.{Job, Group, group_of, text_for}
@@ -25,7 +24,7 @@ use Rattle.ax_text.proofs.Behind.{Same, behind, same_left}
 use Rattle.ax_machine.specs.KeySync.{Said, ran}
 use Rattle.ax_execution.specs.Accepted.{AreAccepted}
 use Rattle.ax_execution.specs.Contexts.{Running}
-use Rattle.ax_execution.specs.Rest.{rest_running, served_at}
+use Rattle.ax_execution.specs.Rest.{rest_running}
 use Rattle.ax_execution.specs.Turns.{timed, left_by, no_answers, silent_talk, begins}
 use Rattle.ax_execution.proofs.Handles.{Handles, goes_in, silenced}
 use Rattle.ax_execution.proofs.Wakeful.{IsWakeful, begin_wakes, give_wakes, slot_waits, waits_for}

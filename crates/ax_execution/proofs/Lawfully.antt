@@ -1,5 +1,5 @@
 -- What is written is lawful, whatever events come.
-use Rattle.std.proofs.Common.{◌≡◌, ℕ, zero, suc, ◌+◌, ◌*◌, ◌≤◌, ◌<◌, ℤ, int_lt, List, [], ◌∷◌, ◌++◌, length, drop, Bool, true, false, Option, Some, None, refl, sym, ap, ap₂, ◌∙◌, arith, subst, append_assoc}
+use Rattle.std.proofs.Common.{◌≡◌, ℕ, zero, suc, ◌+◌, ◌*◌, ◌≤◌, ◌<◌, ℤ, int_lt, List, [], ◌∷◌, ◌++◌, length, Bool, true, false, Option, Some, None, refl, sym, ap, ap₂, ◌∙◌, arith, subst, append_assoc}
 use Rattle.std.proofs.lemmas.List.{append-nil}
 use Rattle.std.proofs.lemmas.Bool.{both_ways}
 use mathlib.Core.Path.{fun_ext}
@@ -23,7 +23,7 @@ use Rattle.ax_execution.specs.Rest.{settled}
 use Rattle.ax_execution.specs.Turns.{admit, mark, fire, start, serve, deliver, start_effects, deliver_effects}
 use Rattle.ax_execution.specs.Machine.{Closing, ByWatermark, ByBarrier, Closed, Machine, Happening, Admit, Close, Fire, Start, Serve, Deliver, Send, Rules, part_at, must_fire, goes_on, marker_of, send_first, close, happens, after_all, taken, machine_from, machine_of, IsAtRest}
 use Rattle.ax_execution.specs.Allowed.{IsWatermark, NoBarrier, IsOpen, IsFinished, FirstIsFinished, Allowed, IsRun}
-use Rattle.ax_execution.specs.Origins.{Origin, IsOrigin, plain_from, sync_from, said_from, key_sync_from}
+use Rattle.ax_execution.specs.Origins.{Origin, IsOrigin, sync_from}
 use Rattle.ax_execution.proofs.Projected.{projected_from}
 use Rattle.ax_execution.proofs.Handles.{Handles}
 use Rattle.ax_execution.proofs.Upto.{by_cases, Grows, said_lines, part_of, PartSorted, upto, Goes, settled_grows, start_goes, serve_goes, deliver_goes, fire_goes, admit_upto, mark_upto, full_upto, finished_lines, nothing_left, mark_keeps}

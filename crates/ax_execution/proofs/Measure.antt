@@ -1,14 +1,14 @@
 -- The work left of a key is that of the same key with nothing said so far.
-use Rattle.std.proofs.Common.{◌≡◌, ℕ, zero, suc, ◌+◌, ◌*◌, ◌-◌, ℤ, int_le, List, [], ◌∷◌, ◌++◌, Bool, true, false, cond, Option, Some, None, refl, ap, ◌∙◌, subst, arith}
+use Rattle.std.proofs.Common.{◌≡◌, ℕ, zero, suc, ◌+◌, ◌*◌, ℤ, int_le, List, [], ◌∷◌, ◌++◌, Bool, true, false, cond, Option, Some, None, refl, ap, subst, arith}
 use Rattle.ax_text.specs.KeyStates.{KeyState}
 use Rattle.ax_text.specs.Programs.{Program}
 use Rattle.ax_text.specs.Run.{World, state_after}
-use Rattle.ax_text.specs.Jobs.{Job, Group, firing_job, job_run, group_of}
+use Rattle.ax_text.specs.Jobs.{Job, firing_job, job_run, group_of}
 use Rattle.ax_text.specs.Controls.{left}
 use Rattle.ax_machine.specs.KeySync.{Said, ran, fire_first, key_fires}
 use Rattle.ax_machine.specs.Sync.{without_least}
 use Rattle.ax_execution.specs.Groups.{on_row, unsaid, weight}
-use Rattle.ax_execution.specs.Contexts.{Running, running_group, Stage, Unbegun, Begun, stage_group, Context, Waiting, Row, Mark, Part, owner_groups, part_groups, rows_in}
+use Rattle.ax_execution.specs.Contexts.{Running, running_group, Stage, Unbegun, Begun, stage_group, Context, Waiting, Row, Mark, Part, owner_groups, part_groups}
 use Rattle.ax_execution.specs.Rest.{rest_stage, rest_owner, rest_items, settled, silent_stage, silent, silent_part, owner_work, part_work}
 use Rattle.ax_execution.proofs.Handles.{Handles, goes_in, silenced}
 use Rattle.ax_execution.proofs.Work.{weight_append}

@@ -19,7 +19,7 @@ use Rattle.ax_execution.specs.Sums.{total}
 use Rattle.ax_machine.specs.Sync.{without_least}
 use Rattle.ax_machine.proofs.FiringLemmas.{key_is, same_key, has_inserted}
 use Rattle.ax_execution.proofs.KeySums.{in_total}
-use Rattle.ax_execution.specs.Origins.{Origin, IsOrigin, sync_from}
+use Rattle.ax_execution.specs.Origins.{Origin, IsOrigin}
 use Rattle.ax_execution.proofs.Projected.{rises_from}
 use Rattle.ax_text.specs.Controls.{is_done, request_at}
 use Rattle.ax_text.specs.Jobs.{firing_job}

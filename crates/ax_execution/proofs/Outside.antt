@@ -1,6 +1,6 @@
 -- What is seen of the machine from outside: rest, finished epochs, and what an event writes.
-use Rattle.std.proofs.Common.{◌≡◌, ℕ, suc, ◌+◌, ◌≤◌, ◌<◌, nat_eq, nat_lt, List, [], ◌∷◌, ◌++◌, length, Bool, true, false, cond, Option, Some, None, refl, sym, ap, ap₂, ◌∙◌, arith, subst, append-nil}
-use Rattle.std.proofs.lemmas.Bool.{eq-eqb, ne_eqb, ltb-true, ltb-false, eqb-true}
+use Rattle.std.proofs.Common.{◌≡◌, ℕ, ◌+◌, ◌≤◌, ◌<◌, nat_eq, nat_lt, List, [], ◌∷◌, ◌++◌, length, Bool, true, false, cond, Option, Some, None, refl, sym, ap, ap₂, ◌∙◌, arith, subst, append-nil}
+use Rattle.std.proofs.lemmas.Bool.{eq-eqb, ltb-true, ltb-false, eqb-true}
 use Rattle.std.specs.Str.{bytes_eq}
 use Rattle.std.specs.List.{list_any}
 use Rattle.ax_text.specs.Programs.{Program}
@@ -10,15 +10,14 @@ use Rattle.ax_text.specs.Prints.{has}
 use Rattle.ax_execution.proofs.Handles.{Handles}
 use Rattle.ax_execution.proofs.Wakeful.{slot_waits}
 use Rattle.ax_machine.specs.Entries.{Key}
-use Rattle.ax_execution.specs.Contexts.{Running, Stage, Unbegun, Begun, Context, Waiting, Row, Mark, Part, contexts_in, owners, rows_in, is_idle_with, is_idle}
-use Rattle.ax_execution.specs.Sums.{total}
+use Rattle.ax_execution.specs.Contexts.{Running, Stage, Unbegun, Begun, Context, Waiting, Row, Mark, contexts_in, owners, rows_in, is_idle_with}
 use Rattle.ax_execution.specs.Machine.{ByWatermark, ByBarrier, Closed, Machine, Happening, Admit, Close, Fire, Start, Serve, Deliver, Send, Rules, send_first, happens, sends_first, outcome, in_flight, IsAtRest}
 use Rattle.ax_execution.specs.Allowed.{NoneIsIdle, OwnedLater, WaitLater, IsFinished}
 use Rattle.ax_execution.specs.Counts.{references, one_at, owner_of_epoch, waiting_of_epoch, part_of_epoch, epoch_count}
 use Rattle.ax_execution.proofs.Upto.{by_cases, StageGood, OwnerGood}
 use Rattle.ax_execution.proofs.KeySums.{in_total}
 use Rattle.ax_execution.proofs.Stuck.{zeros, StageWakes, IsAwake}
-use Rattle.ax_execution.proofs.Orderly.{IsFree, IsOrderly}
+use Rattle.ax_execution.proofs.Orderly.{IsOrderly}
 
 false_true : false ≡ true → ⊥
 false_true e = cc e

@@ -1,5 +1,5 @@
 -- The machine takes no watermark that is skipped.
-use Rattle.std.proofs.Common.{◌≡◌, ℕ, ℤ, int_lt, List, [], ◌∷◌, refl, sym, ap, ◌∙◌, subst}
+use Rattle.std.proofs.Common.{◌≡◌, ℕ, ℤ, int_lt, List, [], ◌∷◌, refl, ap, ◌∙◌, subst}
 use Rattle.std.proofs.lemmas.Bool.{cond-true}
 use Rattle.ax_text.specs.Programs.{Program}
 use Rattle.ax_machine.specs.Events.{Event, without_skipped}

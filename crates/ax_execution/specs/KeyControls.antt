@@ -5,7 +5,7 @@ use Rattle.ax_text.specs.declared.vocabulary.Answer.{Answer}
 use Rattle.ax_text.specs.Cells.{Cells, answer_of}
 use Rattle.ax_text.specs.Programs.{untouched}
 use Rattle.ax_text.specs.Controls.{request_at}
-use Rattle.ax_execution.specs.Contexts.{Running, Stage, Unbegun, Begun, Context, Waiting, Part}
+use Rattle.ax_execution.specs.Contexts.{Stage, Unbegun, Begun, Context, Waiting, Part}
 use Rattle.ax_execution.specs.Rest.{silent}
 use Rattle.ax_execution.specs.Turns.{staged, answered}
 

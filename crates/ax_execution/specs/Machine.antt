@@ -1,10 +1,8 @@
 -- The machine of seven events.
-use Rattle.std.specs.Prelude.{◌≡◌, ℕ, suc, ◌+◌, ◌<◌, ℤ, int_lt, List, [], ◌∷◌, ◌++◌, length, Bool, false, if◌then◌else◌, Option, Some, None}
+use Rattle.std.specs.Prelude.{◌≡◌, ℕ, suc, ◌+◌, ℤ, List, [], ◌∷◌, ◌++◌, length, Bool, false, if◌then◌else◌, Option, Some, None}
 use Rattle.std.specs.Str.{bytes_eq}
 use Rattle.std.specs.BTreeSet.{insert_key}
 use Rattle.ax_keys.specs.Keys.{key_cmp}
-use Rattle.ax_text.specs.declared.vocabulary.Request.{Request}
-use Rattle.ax_text.specs.declared.vocabulary.Answer.{Answer}
 use Rattle.ax_text.specs.Programs.{Program}
 use Rattle.ax_machine.specs.Entries.{Key, Entry, Watermark, Block, says}
 use Rattle.ax_machine.specs.Entries as entry
@@ -17,7 +15,7 @@ use Rattle.ax_machine.specs.Sync.{parts_of}
 use Rattle.ax_text.specs.Controls.{Ask'}
 use Rattle.ax_execution.specs.Groups.{row_facts}
 use Rattle.ax_execution.specs.Origins.{Origin, said_from}
-use Rattle.ax_execution.specs.Contexts.{Stage, Unbegun, Begun, Context, Waiting, Row, Mark, Part, part_lines, contexts_in, is_idle}
+use Rattle.ax_execution.specs.Contexts.{Part, contexts_in, is_idle}
 use Rattle.ax_execution.specs.Rest.{part_work}
 use Rattle.ax_execution.specs.Turns.{Effects, start_effects, deliver_effects, admit, mark, fire, start, serve, deliver}
 

@@ -1,9 +1,10 @@
 //! Numbers of the machine that callers name.
-use ax_text::vocabulary::Handler;
 ghost use Rattle.std.specs.Prelude.{◌≡◌};
 ghost use Rattle.ax_execution.specs.Groups.{handler_weight};
 ghost use Rattle.ax_execution.specs.Machine.{machine_from};
 ghost use Rattle.ax_execution.specs.Origins.{Origin};
+
+use ax_text::vocabulary::Handler;
 
 /// The number of the epoch in which the machine begins. Each close makes it one more.
 pub fn first_epoch() -> u64
