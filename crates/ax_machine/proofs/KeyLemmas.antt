@@ -23,9 +23,9 @@ by_cases true p q = p refl
 by_cases false p q = q refl
 
 -- what a key has, and its lines so far
-record Flat : Type 0 where
-  state : KeyState
-  lines : List (List ℤ)
+pub record Flat : Type 0 where
+  pub state : KeyState
+  pub lines : List (List ℤ)
 
 flat_path : {s t : Flat} → s.state ≡ t.state → s.lines ≡ t.lines → s ≡ t
 flat_path p q = λ i. record { state = p i; lines = q i }

@@ -18,7 +18,7 @@ at_mark m p w es s goes true e =
     ∙ subst (λ (v : ℤ). plain_steps m p (without_skipped v es) fired ≡ plain_steps m p es fired) same (goes fired)
 at_mark m p w es s goes false e = goes s
 
-skipped : (m : ℕ) (p : Program) (es : List Event) (s : Plain) → plain_steps m p (without_skipped s.wm es) s ≡ plain_steps m p es s
+pub skipped : (m : ℕ) (p : Program) (es : List Event) (s : Plain) → plain_steps m p (without_skipped s.wm es) s ≡ plain_steps m p es s
 skipped m p [] s = refl
 skipped m p (Row k time values ∷ es) s = skipped m p es (plain_step m p (Row k time values) s)
 skipped m p (Mark w ∷ es) s = at_mark m p w es s (λ t. skipped m p es t) (int_lt s.wm w) refl

@@ -1,0 +1,10 @@
+use Rattle.ax_execution.proofs.Falls as falls
+use Rattle.ax_execution.proofs.Handlers.{Good, handles}
+use Rattle.ax_execution.proofs.Measure.{silent_work}
+use Rattle.ax_execution.proofs.laws.work_falls.Goals as goal
+
+pub returns-clause-falls : goal.returns-clause-falls
+returns-clause-falls c r g p from es e accepted fits run i h = falls.work_falls p Good (handles p accepted) g from fits r es run e i h
+
+pub returns-clause-silent : goal.returns-clause-silent
+returns-clause-silent c p part accepted = silent_work p Good (handles p accepted) part

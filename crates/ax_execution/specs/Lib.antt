@@ -1,0 +1,13 @@
+pub mod Accepted
+pub mod Groups
+pub mod Origins
+pub mod Sums
+pub mod Contexts
+pub mod Rest
+pub mod Turns
+pub mod KeyControls
+pub mod Machine
+pub mod Counts
+pub mod Allowed
+pub mod Tests
+pub mod Rows

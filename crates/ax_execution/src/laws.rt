@@ -1,0 +1,145 @@
+//! Laws of the machine, over all key groups, programs whose handlers are accepted, rules and runs from the start.
+ghost use Rattle.std.specs.Prelude.{◌≡◌, ℕ, suc, ◌+◌, ◌≤◌, ◌<◌, ℤ, List, [], ◌∷◌, ◌++◌, true, false, Some, None};
+ghost use Rattle.ax_text.specs.Exprs.{Facts};
+ghost use Rattle.ax_text.specs.Programs.{Program};
+ghost use Rattle.ax_machine.specs.Entries.{Key, lines_of};
+ghost use Rattle.ax_machine.specs.Events.{Event, without_skipped};
+ghost use Rattle.ax_machine.specs.KeySync.{key_sync};
+ghost use Rattle.ax_machine.specs.Sync.{sync};
+ghost use Rattle.ax_machine.specs.Lawful.{Lawful, LawfulSoFar};
+ghost use Rattle.ax_text.specs.Controls.{is_done};
+ghost use Rattle.ax_execution.specs.Accepted.{AreAccepted};
+ghost use Rattle.ax_execution.specs.Contexts.{Running, Begun, Context, Waiting, Mark, Part, rows_in, may_fire};
+ghost use Rattle.ax_execution.specs.KeyControls.{control_of, bare, SeesControl, owner_answer, keeps_answer};
+ghost use Rattle.ax_execution.specs.Origins.{Origin, IsOrigin, first, sync_from, key_sync_from, IsProjectedFrom};
+ghost use Rattle.ax_execution.specs.Turns.{admit, mark, fire, start, serve, deliver, start_effects, deliver_effects};
+ghost use Rattle.ax_execution.specs.Rest.{settled, silent_part, owed, part_work};
+ghost use Rattle.ax_execution.specs.Machine.{Machine, Happening, Start, Serve, Deliver, Rules, happens, outcome, taken, machine_from, machine_of, in_flight, work, IsAtRest, IsWork};
+ghost use Rattle.ax_execution.specs.Allowed.{NoneIsIdle, IsFinished, Allowed, IsRun};
+ghost use Rattle.ax_execution.specs.Counts.{one_if_gone, references, epoch_count, number_count};
+ghost use Rattle.ax_execution.specs.Tests.{allowed, runs};
+
+/// Before the first event is an origin, and the plain threads from there are the plain threads.
+pub fn first_is_an_origin()
+    ensures origin { (p : Program) → IsOrigin p (first p) }
+    ensures plain { (m : ℕ) (p : Program) (events : List Event) → sync_from m p (first p) events ≡ sync m p events }
+    ensures key { (p : Program) (k : Key) (events : List Event) → key_sync_from p (first p) k events ≡ key_sync p k events }
+{}
+
+/// Wherever they begin, what the plain thread of all keys has and writes of a key is what the thread of that key alone has and says.
+pub fn keys_are_apart()
+    ensures { (m : ℕ) (p : Program) (from : Origin) (k : Key) (events : List Event) → IsOrigin p from → IsProjectedFrom m p from k events }
+{}
+
+/// A watermark that isn't greater than each one before changes nothing, and the machine takes none. So what the plain thread does
+/// with the events that were read is what it does with those that were taken.
+pub fn skipped_watermarks_change_nothing()
+    ensures none { (r : Rules) (g : ℕ) (p : Program) (from : Origin) (es : List Happening) → IsRun r g p es (machine_from from) → without_skipped from.wm (taken es) ≡ taken es }
+    ensures same { (g : ℕ) (p : Program) (from : Origin) (es : List Happening) (events : List Event) → without_skipped from.wm events ≡ taken es
+        → sync_from g p from (taken es) ≡ sync_from g p from events }
+{}
+
+/// Each key goes as alone, whatever events come: it comes to what its own plain thread has and has said for the events that were
+/// taken, and its lines that were written and then those that it owes are its lines of the plain thread. An event that takes
+/// nothing of the input changes nothing of what it comes to.
+pub fn key_goes_as_alone()
+    ensures settles { (r : Rules) (g : ℕ) (p : Program) (from : Origin) (es : List Happening) (k : Key) → AreAccepted p → IsOrigin p from → IsRun r g p es (machine_from from)
+        → settled p ((machine_of g p from es).parts k) ≡ (key_sync_from p from k (taken es)).said }
+    ensures lines { (r : Rules) (g : ℕ) (p : Program) (from : Origin) (es : List Happening) (k : Key) → AreAccepted p → IsOrigin p from → IsRun r g p es (machine_from from)
+        → lines_of k (machine_of g p from es).written ++ owed p ((machine_of g p from es).parts k) ≡ lines_of k (sync_from g p from (taken es)).entries }
+    ensures kept { (r : Rules) (g : ℕ) (p : Program) (from : Origin) (es : List Happening) (e : Happening) (k : Key) → AreAccepted p → IsOrigin p from → IsRun r g p es (machine_from from) → IsWork e → Allowed r e (machine_of g p from es)
+        → settled p ((happens g p e (machine_of g p from es)).parts k) ≡ settled p ((machine_of g p from es).parts k) }
+{}
+
+/// Whatever events come, what was written may have been written so far for the events that were taken, in either mode,
+/// with the watermarks and the blocks; and where the machine is at rest, it is a whole list that may be written.
+pub fn written_is_lawful()
+    ensures so_far { (r : Rules) (g : ℕ) (p : Program) (from : Origin) (es : List Happening) → AreAccepted p → IsOrigin p from → IsRun r g p es (machine_from from)
+        → LawfulSoFar r.serial (machine_of g p from es).written (sync_from g p from (taken es)).entries }
+    ensures at_rest { (r : Rules) (g : ℕ) (p : Program) (from : Origin) (es : List Happening) → AreAccepted p → IsOrigin p from → IsRun r g p es (machine_from from) → IsAtRest (machine_of g p from es)
+        → Lawful r.serial (machine_of g p from es).written (sync_from g p from (taken es)).entries }
+{}
+
+/// Never more contexts are in flight than the limit; rows wait only behind an owner, or behind a key that must fire;
+/// and a handler that has begun waits for an answer. No two contexts have one number. The mark in front of a key without owner
+/// is due. The owner of a key has a reference left: a callback that hasn't ended.
+pub fn one_owner_and_limit()
+    ensures limit { (r : Rules) (g : ℕ) (p : Program) (from : Origin) (es : List Happening) → AreAccepted p → IsOrigin p from → IsRun r g p es (machine_from from) → in_flight (machine_of g p from es) ≤ r.limit }
+    ensures rows { (r : Rules) (g : ℕ) (p : Program) (from : Origin) (es : List Happening) (k : Key) → AreAccepted p → IsOrigin p from → IsRun r g p es (machine_from from) → (machine_of g p from es).must ≡ None
+        → ((machine_of g p from es).parts k).owner ≡ None → rows_in ((machine_of g p from es).parts k).waiting ≡ 0 }
+    ensures awake { (r : Rules) (g : ℕ) (p : Program) (from : Origin) (es : List Happening) (k : Key) (c : Context) (running : Running) → AreAccepted p → IsOrigin p from → IsRun r g p es (machine_from from)
+        → ((machine_of g p from es).parts k).owner ≡ Some c → c.stage ≡ Begun running → is_done running.control ≡ false }
+    ensures numbers { (r : Rules) (g : ℕ) (p : Program) (from : Origin) (es : List Happening) (n : ℕ) → AreAccepted p → IsOrigin p from → IsRun r g p es (machine_from from)
+        → number_count n (machine_of g p from es) ≤ 1 }
+    ensures idle { (r : Rules) (g : ℕ) (p : Program) (from : Origin) (es : List Happening) (k : Key) (e : ℕ) (w : ℤ) (more : ℕ) (rest : List Waiting) → AreAccepted p → IsOrigin p from → IsRun r g p es (machine_from from)
+        → ((machine_of g p from es).parts k).owner ≡ None → ((machine_of g p from es).parts k).waiting ≡ Mark e w more ∷ rest
+        → may_fire w more ((machine_of g p from es).parts k).said.state.times ≡ true }
+    ensures referred { (r : Rules) (g : ℕ) (p : Program) (from : Origin) (es : List Happening) (k : Key) (c : Context) → AreAccepted p → IsOrigin p from → IsRun r g p es (machine_from from)
+        → ((machine_of g p from es).parts k).owner ≡ Some c → 0 < references c.stage }
+{}
+
+/// A context is given up exactly at the event whose outcome says so: then one fewer is in flight, and else, behind Start, Serve and
+/// Deliver, as many as before.
+pub fn contexts_are_given_up()
+    ensures start { (r : Rules) (g : ℕ) (p : Program) (from : Origin) (es : List Happening) (k : Key) → AreAccepted p → IsOrigin p from → IsRun r g p es (machine_from from) → Allowed r (Start k) (machine_of g p from es)
+        → in_flight (happens g p (Start k) (machine_of g p from es)) + one_if_gone (outcome g p (Start k) (machine_of g p from es)).gone ≡ in_flight (machine_of g p from es) }
+    ensures serve { (r : Rules) (g : ℕ) (p : Program) (from : Origin) (es : List Happening) (k : Key) (slot : ℕ) → AreAccepted p → IsOrigin p from → IsRun r g p es (machine_from from) → Allowed r (Serve k slot) (machine_of g p from es)
+        → in_flight (happens g p (Serve k slot) (machine_of g p from es)) ≡ in_flight (machine_of g p from es) }
+    ensures deliver { (r : Rules) (g : ℕ) (p : Program) (from : Origin) (es : List Happening) (k : Key) (slot : ℕ) → AreAccepted p → IsOrigin p from → IsRun r g p es (machine_from from) → Allowed r (Deliver k slot) (machine_of g p from es)
+        → in_flight (happens g p (Deliver k slot) (machine_of g p from es)) + one_if_gone (outcome g p (Deliver k slot) (machine_of g p from es)).gone ≡ in_flight (machine_of g p from es) }
+{}
+
+/// With room for one context the machine is never stuck: where no event is allowed that takes nothing of the input, it is at rest.
+pub fn never_stuck()
+    ensures { (r : Rules) (g : ℕ) (p : Program) (from : Origin) (es : List Happening) → AreAccepted p → IsOrigin p from → IsRun r g p es (machine_from from) → 0 < r.limit
+        → ((e : Happening) → IsWork e → Allowed r e (machine_of g p from es) → ⊥) → IsAtRest (machine_of g p from es) }
+{}
+
+/// Each event that takes nothing of the input takes exactly one from the work left. What was said so far is no part of it:
+/// it is computed from the control and the cells alone.
+pub fn work_falls()
+    ensures falls { (r : Rules) (g : ℕ) (p : Program) (from : Origin) (es : List Happening) (e : Happening) → AreAccepted p → IsOrigin p from → IsRun r g p es (machine_from from) → IsWork e → Allowed r e (machine_of g p from es)
+        → suc (work p (happens g p e (machine_of g p from es))) ≡ work p (machine_of g p from es) }
+    ensures silent { (p : Program) (part : Part) → AreAccepted p → part_work p part ≡ part_work p (silent_part part) }
+{}
+
+/// Where nothing is in flight, every marker is sent and no key may fire, the machine is at rest, and only there.
+pub fn rest_is_seen_from_outside()
+    ensures enough { (r : Rules) (g : ℕ) (p : Program) (from : Origin) (es : List Happening) → AreAccepted p → IsOrigin p from → IsRun r g p es (machine_from from)
+        → in_flight (machine_of g p from es) ≡ 0 → (machine_of g p from es).unsent ≡ [] → NoneIsIdle (machine_of g p from es) → IsAtRest (machine_of g p from es) }
+    ensures needed { (m : Machine) → IsAtRest m → (in_flight m ≡ 0) × (m.unsent ≡ []) × NoneIsIdle m }
+{}
+
+/// A closed epoch is finished exactly where neither it nor an earlier one has a context or a mark.
+pub fn finished_epochs_count_nothing()
+    ensures finished { (e : ℕ) (m : Machine) → IsFinished e m → (u : ℕ) → u ≤ e → epoch_count u m ≡ 0 }
+    ensures counts { (r : Rules) (g : ℕ) (p : Program) (from : Origin) (es : List Happening) (e : ℕ) → AreAccepted p → IsOrigin p from → IsRun r g p es (machine_from from)
+        → ((u : ℕ) → u ≤ e → epoch_count u (machine_of g p from es) ≡ 0) → IsFinished e (machine_of g p from es) }
+{}
+
+/// What was written grows by just what an event's outcome says.
+pub fn outcomes_are_written()
+    ensures { (g : ℕ) (p : Program) (e : Happening) (m : Machine) → (happens g p e m).written ≡ m.written ++ (outcome g p e m).entries }
+{}
+
+/// Which events are allowed is decided by a test over the keys of rows.
+pub fn allowed_is_decided()
+    ensures passes { (r : Rules) (m : Machine) (e : Happening) → Allowed r e m → allowed r e m ≡ true }
+    ensures is_so { (r : Rules) (g : ℕ) (p : Program) (from : Origin) (es : List Happening) (e : Happening) → AreAccepted p → IsOrigin p from → IsRun r g p es (machine_from from)
+        → allowed r e (machine_of g p from es) ≡ true → Allowed r e (machine_of g p from es) }
+    ensures run { (r : Rules) (g : ℕ) (p : Program) (from : Origin) (es : List Happening) → AreAccepted p → IsOrigin p from
+        → runs r g p es (machine_from from) ≡ true → IsRun r g p es (machine_from from) }
+{}
+
+/// Each event of a key but Serve looks at its control alone, at no cell and at nothing that was said; so do the lines and the
+/// requests of a callback. Serve takes one answer of the cells.
+pub fn events_see_the_control()
+    ensures admit { (n e : ℕ) (f : Facts) → SeesControl (admit n e f) }
+    ensures mark { (e : ℕ) (w : ℤ) (more : ℕ) → SeesControl (mark e w more) }
+    ensures fire { (n : ℕ) → SeesControl (fire n) }
+    ensures start { (p : Program) → SeesControl (start p) }
+    ensures deliver { (slot : ℕ) → SeesControl (deliver slot) }
+    ensures serve { (slot : ℕ) (part : Part) → control_of (serve slot part) ≡ keeps_answer slot (owner_answer slot part.owner part.said.state.cells) (control_of part) }
+    ensures started { (p : Program) (part : Part) → start_effects p part ≡ start_effects p (bare (control_of part)) }
+    ensures delivered { (slot : ℕ) (part : Part) → deliver_effects slot part ≡ deliver_effects slot (bare (control_of part)) }
+{}
