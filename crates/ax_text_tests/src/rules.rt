@@ -437,12 +437,24 @@ fn limits(rt: HostRuntime) {
         (wide(alloc, "if 1", 16, 1, true), (100, 9)),
         (wide(alloc, "each i in l", 16, 1, true), (100, 9)),
         (wide(alloc, "each i in l", 16, 1, false), (100, 9)),
-        (with_statements(alloc, 2000, 3000, 2999, "let b = 1"), (0, 0)),
-        (with_statements(alloc, 2000, 3000, 2999, "if 1"), (18006, 10)),
+        (
+            with_statements(alloc, 2000, 3000, 2999, "let b = 1"),
+            (0, 0),
+        ),
+        (
+            with_statements(alloc, 2000, 3000, 2999, "if 1"),
+            (18006, 10),
+        ),
         (with_statements(alloc, 2000, 3000, 3000, "end"), (18006, 1)),
-        (with_statements(alloc, 2000, 3000, 3000, "emit z"), (18005, 8)),
+        (
+            with_statements(alloc, 2000, 3000, 3000, "emit z"),
+            (18005, 8),
+        ),
         (with_statements(alloc, 2000, 3000, 3000, "if 1"), (18005, 8)),
-        (with_statements(alloc, 2000, 3000, 3000, "emit 1 *"), (18005, 1)),
+        (
+            with_statements(alloc, 2000, 3000, 3000, "emit 1 *"),
+            (18005, 1),
+        ),
         (two_sums(alloc, "x = get m ", 127, " or ", 127), (0, 0)),
         (two_sums(alloc, "x = get m ", 128, " or ", 127), (4, 8)),
         (two_sums(alloc, "x = get m ", 127, " or ", 128), (4, 8)),
