@@ -11,6 +11,8 @@ mod failing;
 mod faulty;
 pub mod inputs;
 #[cfg(test)]
+mod language;
+#[cfg(test)]
 mod limits;
 #[cfg(test)]
 mod outside;

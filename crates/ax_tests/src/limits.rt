@@ -232,3 +232,55 @@ fn counts_in_a_program(rt: HostRuntime) -> Result<(), Fail> {
         program(4, 8),
     )
 }
+
+#[test]
+fn blocks_of_the_greatest_depth_and_width(rt: HostRuntime) -> Result<(), Fail> {
+    let alloc = rt.alloc();
+    let tests = numbered(alloc, "if 1 + ", 32, "\n")?;
+    let ends = numbered(alloc, "#", 32, "\nend\n")?;
+    expect(
+        &rt,
+        &[
+            HEAD,
+            tests.as_bytes(),
+            b"emit v1\n",
+            ends.as_bytes(),
+            b"end\n%%\nr a 1 5\n",
+        ],
+        "o a 5\n",
+        Status::Ok,
+    )?;
+    expect(
+        &rt,
+        &[HEAD, tests.as_bytes(), b"if 1\n%%\n"],
+        "",
+        program(36, 7),
+    )?;
+    let arms = numbered(alloc, "both\nx", 15, " = get c or 7\nwith\n")?;
+    let closed = numbered(alloc, "#", 15, "\nend\n")?;
+    expect(
+        &rt,
+        &[
+            HEAD,
+            arms.as_bytes(),
+            b"y = get c or 8\n",
+            closed.as_bytes(),
+            b"emit x0 + x14 + y\nend\n%%\nr a 1 5\n",
+        ],
+        "o a 22\n",
+        Status::Ok,
+    )?;
+    let more = numbered(alloc, "both\nx", 16, " = get c or 7\nwith\n")?;
+    expect(
+        &rt,
+        &[
+            HEAD,
+            more.as_bytes(),
+            b"y = get c or 8\n",
+            ends.as_bytes(),
+            b"end\n%%\nr a 1 5\n",
+        ],
+        "",
+        program(84, 9),
+    )
+}

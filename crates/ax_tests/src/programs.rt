@@ -57,8 +57,8 @@ input 1;state value value||p 2 1
 input 1;state c counter||p 2 1
 input 1;state abcdefghijklmnopqrstuvwxyz0123456 value||p 2 1
 input 1;state abcdefghijklmnopqrstuvwxyz012345 value;z||p 3 1
-input 1;state c list||p 2 13
-input 1;state c map||p 2 13
+input 1;state c list||p 3 10
+input 1;state c map||p 3 10
 input 1;state c value;state c value||p 3 3
 input 1;emit v1||p 2 1
 input 1;end||p 2 1
@@ -94,9 +94,9 @@ emit 1 , 2 , 3 , 4 , 5 , 6 , 7 , 8 , 9 , 10 , 11 , 12 , 13 , 14 , 15 , 16 , 17||
 x = get c||p 5 1
 or = get c or 0||p 5 1
 put c||p 5 1
-let y = 1||p 5 13
-emit v1 * 2||p 5 13
-emit ( v1 )||p 5 13
+let y = z||p 5 2
+emit v1 * z||p 5 2
+emit ( v2 )||p 5 2
 timer||p 5 1
 timer 1 , 2||p 5 1
 timer z||p 5 2
@@ -104,10 +104,15 @@ timer c||p 5 4
 untimer||p 5 1
 untimer z||p 5 2
 wm = get c or 0||p 5 1
-emit v1 < 2||p 5 13
-put c 1 , 2||p 5 13
-if v1||p 5 13
-clear c||p 5 13
+emit v1 < c||p 5 4
+put c 1 , 2||p 5 4
+if v1||p 7 10
+if v1;else;else||p 7 1
+both||p 6 1
+both;with||p 8 10
+both;emit 1||p 6 6
+each x in x||p 5 4
+clear x||p 5 4
 emit z||p 5 2
 emit v2||p 5 2
 emit v0||p 5 2

@@ -35,7 +35,14 @@ input 0;on row;both;let a = 1;with;let b = 2;end;both;let a = 2;with;let b = 1;e
 input 0;on row;let a = 0;both;let b = a;with;let c = a;end;end|0 0
 input 0;state s value;on row;both;a = get s or 0;with;b = get s or 0;end;end|0 0
 input 0;state s value;state t list;on row;both;put s 1;with;put t 1;end;end|0 0
-input 0;on row;let a = 1;end;on timer;let b = 1;emit b;end|0 0";
+input 0;on row;let a = 1;end;on timer;let b = 1;emit b;end|0 0
+input 1;state l list;on row;put l v1 , 2 , 3 , 4 , 5 , 6 , 7 , 8 , 9 , 10 , 11 , 12 , 13 , 14 , 15 , 16;end|0 0
+input 16;on row;emit v1 , 2 , 3 , 4 , 5 , 6 , 7 , 8 , 9 , 10 , 11 , 12 , 13 , 14 , 15 , v16;end|0 0
+input 0;state l list;on row;both;each i in l;end;with;each j in l;end;end;end|0 0
+input 0;state m map;on row;both;x = has m 1;with;y = empty m;end;each x y in m;emit x , y;end;end|0 0
+input 0;on row;both;let a = 1;with;end;both;let b = 1;with;let c = a;end;emit a + b + c;end|0 0
+input 0;on row;both;with;let a = 1;let b = a;let a = 2;end;if 1;let d = b;end;emit d;end|0 0
+input 0;on row;both;both;let a = 1;with;let b = 1;end;with;both;let c = 1;with;let d = 1;end;end;end|0 0";
 
 const WORD: &str = "\
 foo|1 1
@@ -61,7 +68,26 @@ input 0;on row;on row|3 1
 input 0;on row;end;state a value|4 1
 input 0;on row;emit ( 1|3 1
 input 0;on row;if 1;else;end;end|0 0
-input 0;on row;both;with;end;end|0 0";
+input 0;on row;both;with;end;end|0 0
+input 0;on row;if 1;end;else|5 1
+input 0;on row;both;with;end;with|6 1
+input 0;on row;both;if 1;with|5 1
+input 0;on row;both;with;if 1;with|6 1
+input 0;on row;if 1;both;with;else|6 1
+input 0;state l list;on row;each i in l;else;else|5 1
+input 0;on row;both 1|3 1
+input 0;on row;let v1 = 1|3 1
+input 0;on row;let time = 1|3 1
+input 0;on row;each in in l|3 1
+input 0;on row;put v1 1|3 1
+input 0;on row;emit 1 )|3 1
+input 0;on row;emit ( )|3 1
+input 0;on row;emit 1 < = 2|3 1
+input 0;on row;emit - 1|3 1
+input 0;on row;x = get s 1|3 1
+input 0;on row;emit 1 , 2 , 3 , 4 , 5 , 6 , 7 , 8 , 9 , 10 , 11 , 12 , 13 , 14 , 15 , 16 , 17|3 1
+input 0;state l list;on row;put l 1 , 2 , 3 , 4 , 5 , 6 , 7 , 8 , 9 , 10 , 11 , 12 , 13 , 14 , 15 , 16 , 17|4 1
+input 17|1 1";
 
 const TWICE: &str = "\
 input 0;input 0|2 3
@@ -83,7 +109,16 @@ input 0;on row;put s 1|3 2
 input 0;on row;each i in j|3 2
 input 0;state m map;on row;x = get m z or 1|4 2
 input 0;state m map;on row;x = get m 1 or z|4 2
-input 0;state m map;on row;put m 1 , ( z )|4 2";
+input 0;state m map;on row;put m 1 , ( z )|4 2
+input 0;state l list;on row;each x in l;emit y|5 2
+input 0;state l list;on row;put l 1 , y|4 2
+input 0;state l list;on row;put l 1 , 2 , y|4 2
+input 0;on row;x = empty x|3 2
+input 0;state m map;on row;x = has m x|4 2
+input 0;on row;clear z|3 2
+input 0;state m map;on row;each k n in m;remove m z|5 2
+input 1;state l list;on row;end;on timer;each x in l;add l v1|7 2
+input 0;on row;both;let a = 1;with;let b = c|6 2";
 
 const WRONG_KIND: &str = "\
 input 0;on row;each i in i|3 4
@@ -114,7 +149,22 @@ input 0;state l list;on row;each k n in l|4 4
 input 0;state m map;on row;each k in m|4 4
 input 0;state s value;on row;each k in s|4 4
 input 0;state l list;on row;x = has l 1|4 4
-input 0;state l list;on row;x = empty l|4 4";
+input 0;state l list;on row;x = empty l|4 4
+input 0;on row;let i = 1;each i in i|4 4
+input 0;on row;each k n in k|3 4
+input 0;state s value;state m map;on row;each k s in m|5 4
+input 0;state s value;on row;if 1 + s|4 4
+input 0;state m map;on row;m = has m 1|4 4
+input 0;state m map;on row;m = empty m|4 4
+input 0;state m map;on row;x = get m m or 1|4 4
+input 0;state m map;on row;put m 1 , m|4 4
+input 0;state l list;on row;put l 1 , 2 , l|4 4
+input 0;state s value;on row;timer s|4 4
+input 0;state s value;on row;x = has s 1|4 4
+input 0;state s value;on row;x = empty s|4 4
+input 0;state s value;on row;remove s 1|4 4
+input 0;state s value;on row;each k n in s|4 4
+input 0;on row;let a = 1;x = get a 1 or 2|4 4";
 
 const IN_ARM: &str = "\
 input 0;on row;both;emit 1|4 6
@@ -122,7 +172,10 @@ input 0;on row;both;with;timer 1|5 6
 input 0;on row;both;if 1;untimer 1|5 6
 input 0;state l list;on row;both;each x in l;if x;else;emit x|8 6
 input 0;on row;both;with;both;with;if 1;timer 1|8 6
-input 0;on row;if 1;both;with;end;emit 1;end;emit 1;end|0 0";
+input 0;on row;if 1;both;with;end;emit 1;end;emit 1;end|0 0
+input 0;on row;end;on timer;both;untimer time|6 6
+input 0;state l list;state m map;on row;both;with;each x in l;if x;each k n in m;both;if 1;timer 1|12 6
+input 0;on row;both;both;with;both;with;if 0;else;untimer 1|10 6";
 
 const CONFLICT: &str = "\
 input 0;on row;both;let a = 1;with;let a = 2|6 5
@@ -144,7 +197,18 @@ input 0;on row;both;both;let a = 1;with;let b = 1;end;with;let b = 2|10 5
 input 0;on row;both;let a = 1;with;both;let b = 1;with;let a = 2|9 5
 input 0;state s map;on row;both;if 1;both;remove s 1;with;let a = 1;end;end;with;if 1;x = has s 1|14 5
 input 0;on row;let a = 1;let b = 1;both;let c = a;let d = a;with;let e = b;let a = 1|10 5
-input 0;state m map;on row;let a = 1;both;x = get m 1 or a;with;let a = 1|8 5";
+input 0;state m map;on row;let a = 1;both;x = get m 1 or a;with;let a = 1|8 5
+input 0;state s value;on row;both;put s 1;with;if 1;x = get s or 0|8 5
+input 0;state s value;on row;both;if 1;else;clear s;end;with;x = get s or 0|10 5
+input 0;state l list;state s value;on row;both;each i in l;put s i;end;with;each j in l;y = get s or 0|11 5
+input 0;state m map;on row;both;put m 1 , 2;with;both;let a = 1;with;x = empty m|10 5
+input 0;state m map;on row;both;if 1;remove m 1;end;with;if 1;each k n in m|10 5
+input 0;state m map;on row;both;both;each k n in m;end;with;end;with;clear m|11 5
+input 0;on row;let a = 0;both;both;with;if a;end;end;with;let a = 1|11 5
+input 0;state l list;on row;let a = 0;both;let b = a;with;both;with;each a in l|10 5
+input 0;state m map;on row;both;let a = 1;with;x = has m a|7 5
+input 0;state m map;on row;both;put m 1 , 1;with;put m 2 , 2|7 5
+input 0;on row;end;on timer;both;let a = 1;with;let a = 1|8 5";
 
 const DUE: &str = "\
 |1 10
@@ -152,7 +216,13 @@ input 0|2 10
 input 0;on row|3 10
 input 0;on row;if 1;end|5 10
 input 0;on row;both;with|5 10
-input 0;on row;end;on timer|5 10";
+input 0;on row;end;on timer|5 10
+input 0;state l list;on row;each i in l|5 10
+input 0;state l list;on row;each i in l;end|6 10
+input 0;on row;both|4 10
+input 0;on row;both;with;end|6 10
+input 0;on row;if 1;else|5 10
+input 0;on row;end;on timer;if 1;end|7 10";
 
 // A line that has two kinds that follow each other in the order tells the first. (An `end` touches nothing, so that none is
 // both in conflict and too wide.)
@@ -215,18 +285,28 @@ fn nested(alloc: Global, count: usize, last: &str) -> Result<(u64, u8), NoMemory
     fault_of(alloc, &lines, true)
 }
 
-// This many `both` in one another, each with a request beside the next, and this many lines in the innermost.
-fn wide(alloc: Global, count: usize, inner: usize) -> Result<(u64, u8), NoMemory> {
-    let mut lines = section(alloc, "input 0;state s value;on row")?;
+// This many `both` in one another, each with a request beside the next and inside a block of this line, and this many lines in
+// the innermost.
+fn wide(
+    alloc: Global,
+    block: &str,
+    count: usize,
+    inner: usize,
+    found: bool,
+) -> Result<(u64, u8), NoMemory> {
+    let mut lines = section(alloc, "input 0;state s value;state l list;on row")?;
     for n in 0..count {
+        add_text(alloc, &mut lines, block)?;
         add_text(alloc, &mut lines, "both")?;
         add_numbered(alloc, &mut lines, "x", n, " = get s or 0")?;
         add_text(alloc, &mut lines, "with")?;
     }
     add_many(alloc, &mut lines, inner, "y = get s or 0")?;
-    add_many(alloc, &mut lines, count, "end")?;
+    for _n in 0..count {
+        add_many(alloc, &mut lines, 2, "end")?;
+    }
     add_text(alloc, &mut lines, "end")?;
-    fault_of(alloc, &lines, true)
+    fault_of(alloc, &lines, found)
 }
 
 // This many local names, then this line.
@@ -240,6 +320,29 @@ fn with_locals(alloc: Global, count: usize, last: &str) -> Result<(u64, u8), NoM
     fault_of(alloc, &lines, true)
 }
 
+// Twice this many blocks in `on row`, this many further lines there and in `on timer`, then this line.
+fn with_statements(
+    alloc: Global,
+    blocks: usize,
+    row: usize,
+    timer: usize,
+    last: &str,
+) -> Result<(u64, u8), NoMemory> {
+    let mut lines = section(alloc, "input 0;on row")?;
+    for _n in 0..blocks {
+        for text in ["if 1", "else", "end", "both", "with", "end"] {
+            add_text(alloc, &mut lines, text)?;
+        }
+    }
+    add_many(alloc, &mut lines, row, "let a = 1")?;
+    add_text(alloc, &mut lines, "end")?;
+    add_text(alloc, &mut lines, "on timer")?;
+    add_many(alloc, &mut lines, timer, "let b = 1")?;
+    add_text(alloc, &mut lines, last)?;
+    add_text(alloc, &mut lines, "end")?;
+    fault_of(alloc, &lines, true)
+}
+
 // This many states, then this line.
 fn with_states(alloc: Global, count: usize, last: &str) -> Result<(u64, u8), NoMemory> {
     let mut lines = section(alloc, "input 0")?;
@@ -247,6 +350,42 @@ fn with_states(alloc: Global, count: usize, last: &str) -> Result<(u64, u8), NoM
         add_numbered(alloc, &mut lines, "state s", n, " value")?;
     }
     add_text(alloc, &mut lines, last)?;
+    add_text(alloc, &mut lines, "end")?;
+    fault_of(alloc, &lines, true)
+}
+
+// The number 1, and so many times ` + 1`.
+fn add_sum(text: &mut String, count: usize) -> Result<(), NoMemory> {
+    if text.push_str("1").is_err() {
+        return Err(NoMemory);
+    }
+    for _n in 0..count {
+        if text.push_str(" + 1").is_err() {
+            return Err(NoMemory);
+        }
+    }
+    Ok(())
+}
+
+// A line of a map with two expressions, each of a number and so many times ` + 1`.
+fn two_sums(
+    alloc: Global,
+    before: &str,
+    one: usize,
+    between: &str,
+    other: usize,
+) -> Result<(u64, u8), NoMemory> {
+    let mut lines = section(alloc, "input 0;state m map;on row")?;
+    let mut text = String::new(alloc);
+    if text.push_str(before).is_err() {
+        return Err(NoMemory);
+    }
+    add_sum(&mut text, one)?;
+    if text.push_str(between).is_err() {
+        return Err(NoMemory);
+    }
+    add_sum(&mut text, other)?;
+    add_text(alloc, &mut lines, text.as_str())?;
     add_text(alloc, &mut lines, "end")?;
     fault_of(alloc, &lines, true)
 }
@@ -292,9 +431,36 @@ fn limits(rt: HostRuntime) {
         (nested(alloc, 32, "each a b in m"), (36, 7)),
         (nested(alloc, 32, "each a a in m"), (36, 7)),
         (nested(alloc, 31, "each a a in m"), (35, 3)),
-        (wide(alloc, 15, 9), (0, 0)),
-        (wide(alloc, 16, 0), (0, 0)),
-        (wide(alloc, 16, 1), (68, 9)),
+        (wide(alloc, "if 1", 15, 9, true), (0, 0)),
+        (wide(alloc, "each i in l", 15, 1, true), (0, 0)),
+        (wide(alloc, "if 1", 16, 0, true), (0, 0)),
+        (wide(alloc, "if 1", 16, 1, true), (100, 9)),
+        (wide(alloc, "each i in l", 16, 1, true), (100, 9)),
+        (wide(alloc, "each i in l", 16, 1, false), (100, 9)),
+        (
+            with_statements(alloc, 2000, 3000, 2999, "let b = 1"),
+            (0, 0),
+        ),
+        (
+            with_statements(alloc, 2000, 3000, 2999, "if 1"),
+            (18006, 10),
+        ),
+        (with_statements(alloc, 2000, 3000, 3000, "end"), (18006, 1)),
+        (
+            with_statements(alloc, 2000, 3000, 3000, "emit z"),
+            (18005, 8),
+        ),
+        (with_statements(alloc, 2000, 3000, 3000, "if 1"), (18005, 8)),
+        (
+            with_statements(alloc, 2000, 3000, 3000, "emit 1 *"),
+            (18005, 1),
+        ),
+        (two_sums(alloc, "x = get m ", 127, " or ", 127), (0, 0)),
+        (two_sums(alloc, "x = get m ", 128, " or ", 127), (4, 8)),
+        (two_sums(alloc, "x = get m ", 127, " or ", 128), (4, 8)),
+        (two_sums(alloc, "put m ", 127, " , ", 127), (0, 0)),
+        (two_sums(alloc, "put m ", 128, " , ", 127), (4, 8)),
+        (two_sums(alloc, "put m ", 127, " , ", 128), (4, 8)),
         (with_locals(alloc, 256, "let n7 = n255"), (0, 0)),
         (with_locals(alloc, 256, "let a = z"), (261, 8)),
         (with_locals(alloc, 256, "let s = 1"), (261, 4)),
