@@ -1,12 +1,16 @@
 //! Laws of handlers. Each is what an empty function ensures.
-ghost use Rattle.std.specs.Prelude.{◌≡◌, ℕ, List, [], ◌∷◌, true};
+ghost use Rattle.std.specs.Prelude.{◌≡◌, ℕ, List, [], ◌∷◌, true, Some};
 ghost use Rattle.ax_text.specs.declared.vocabulary.Answer.{Answer as AnyAnswer};
+ghost use Rattle.ax_text.specs.declared.vocabulary.Request.{Request as AnyRequest};
+ghost use Rattle.ax_text.specs.declared.vocabulary.Kind.{Kind};
 ghost use Rattle.ax_text.specs.Exprs.{Facts};
 ghost use Rattle.ax_text.specs.Cells.{Cells};
 ghost use Rattle.ax_text.specs.Texts.{Text};
 ghost use Rattle.ax_text.specs.Programs.{width};
 ghost use Rattle.ax_text.specs.Run.{Talk};
-ghost use Rattle.ax_text.specs.Controls.{Control, Cursor, Event};
+ghost use Rattle.ax_text.specs.Controls.{Control, Cursor, Event, waiting, request_at};
+ghost use Rattle.ax_text.specs.Suits.{Suits, AsksSuit, fits_in};
+ghost use Rattle.ax_text.specs.Sound.{BeginsSound, GivesSound};
 ghost use Rattle.ax_text.specs.Futures.{ComesToRun, EndsAsRun, StaysWithin, AsksAtBegin, AsksAtGive};
 ghost use Rattle.ax_text.specs.Rows.{Row, IsAccepted, follow, widened_by, now_of, text_of, wide, Body};
 
@@ -26,6 +30,19 @@ pub fn futures_end_as_the_run()
 #[tactic(auto, using(crate::proofs::Wide::stays_within))]
 pub fn waits_within_the_width()
     ensures { (f : Facts) (t : Text) (cells : Cells) (events : List Event) → StaysWithin f t cells events }
+{}
+
+/// A control of an accepted text is sound: its arms are apart and wait at different slots, at most `n` requests are out at once, at slots below `n`, and each request that waits, now or later, is to a state that exists, and of a kind that serves it. It begins so, where the text fits and is at most `n` wide, and an answer keeps it so.
+pub fn controls_stay_sound()
+    ensures begin { (n : ℕ) (kinds : List Kind) (f : Facts) (fields locals : ℕ) (text : Text) (t : Talk) → BeginsSound n kinds f fields locals text t }
+    ensures give { (n : ℕ) (kinds : List Kind) (f : Facts) (c : Control) (s : ℕ) (a : AnyAnswer) (t : Talk) → GivesSound n kinds f c s a t }
+{}
+
+/// Each request of a sound control is to a state that exists, and of a kind that serves it.
+#[tactic(auto, using(crate::proofs::Suiting::waiting_suits, crate::proofs::Suiting::request_suits))]
+pub fn requests_suit_their_states()
+    ensures waiting { (kinds : List Kind) (c : Control) → Suits kinds c → AsksSuit kinds (waiting c) }
+    ensures at { (kinds : List Kind) (c : Control) (s : ℕ) (r : AnyRequest) → Suits kinds c → request_at c s ≡ Some r → fits_in kinds r ≡ true }
 {}
 
 /// What a callback asks is what waits behind it and did not before.
