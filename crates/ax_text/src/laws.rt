@@ -1,5 +1,5 @@
 //! Laws of handlers. Each is what an empty function ensures.
-ghost use Rattle.std.specs.Prelude.{◌≡◌, ℕ, List, [], ◌∷◌, true, Some};
+ghost use Rattle.std.specs.Prelude.{◌≡◌, ℕ, List, [], ◌∷◌, true, false, Some};
 ghost use Rattle.ax_text.specs.declared.vocabulary.Answer.{Answer as AnyAnswer};
 ghost use Rattle.ax_text.specs.declared.vocabulary.Request.{Request as AnyRequest};
 ghost use Rattle.ax_text.specs.declared.vocabulary.Kind.{Kind};
@@ -8,9 +8,9 @@ ghost use Rattle.ax_text.specs.Cells.{Cells};
 ghost use Rattle.ax_text.specs.Texts.{Text};
 ghost use Rattle.ax_text.specs.Programs.{width};
 ghost use Rattle.ax_text.specs.Run.{Talk};
-ghost use Rattle.ax_text.specs.Controls.{Control, Cursor, Event, waiting, request_at};
+ghost use Rattle.ax_text.specs.Controls.{Control, Done, Cursor, Event, slots, waiting, is_done, request_at};
 ghost use Rattle.ax_text.specs.Suits.{Suits, AsksSuit, fits_in};
-ghost use Rattle.ax_text.specs.Sound.{BeginsSound, GivesSound};
+ghost use Rattle.ax_text.specs.Sound.{Split, IsWakeful, IsWaiting, BeginsSound, GivesSound};
 ghost use Rattle.ax_text.specs.Futures.{ComesToRun, EndsAsRun, StaysWithin, AsksAtBegin, AsksAtGive};
 ghost use Rattle.ax_text.specs.Rows.{Row, IsAccepted, follow, widened_by, now_of, text_of, wide, Body};
 
@@ -32,7 +32,7 @@ pub fn waits_within_the_width()
     ensures { (f : Facts) (t : Text) (cells : Cells) (events : List Event) → StaysWithin f t cells events }
 {}
 
-/// A control of an accepted text is sound: its arms are apart and wait at different slots, at most `n` requests are out at once, at slots below `n`, and each request that waits, now or later, is to a state that exists, and of a kind that serves it. It begins so, where the text fits and is at most `n` wide, and an answer keeps it so.
+/// A control of an accepted text is sound: its arms are apart and wait at different slots, at most `n` requests are out at once, at slots below `n`, each request that waits, now or later, is to a state that exists, and of a kind that serves it, and it waits unless it is done. It begins so, where the text fits and is at most `n` wide, and an answer keeps it so.
 pub fn controls_stay_sound()
     ensures begin { (n : ℕ) (kinds : List Kind) (f : Facts) (fields locals : ℕ) (text : Text) (t : Talk) → BeginsSound n kinds f fields locals text t }
     ensures give { (n : ℕ) (kinds : List Kind) (f : Facts) (c : Control) (s : ℕ) (a : AnyAnswer) (t : Talk) → GivesSound n kinds f c s a t }
@@ -43,6 +43,13 @@ pub fn controls_stay_sound()
 pub fn requests_suit_their_states()
     ensures waiting { (kinds : List Kind) (c : Control) → Suits kinds c → AsksSuit kinds (waiting c) }
     ensures at { (kinds : List Kind) (c : Control) (s : ℕ) (r : AnyRequest) → Suits kinds c → request_at c s ≡ Some r → fits_in kinds r ≡ true }
+{}
+
+/// A control that is not done waits for an answer, and one where no slot waits is done.
+#[tactic(auto, using(crate::proofs::Wakeful::waits_for, crate::proofs::Wakeful::none_waits))]
+pub fn done_where_nothing_waits()
+    ensures waits { (c : Control) → IsWakeful c → Split c → is_done c ≡ false → IsWaiting c }
+    ensures done { (c : Control) → IsWakeful c → slots c ≡ [] → c ≡ Done }
 {}
 
 /// What a callback asks is what waits behind it and did not before.
