@@ -7,10 +7,11 @@ ghost use Rattle.ax_text.specs.Exprs.{Facts};
 ghost use Rattle.ax_text.specs.Cells.{Cells};
 ghost use Rattle.ax_text.specs.Texts.{Text};
 ghost use Rattle.ax_text.specs.Programs.{width};
-ghost use Rattle.ax_text.specs.Run.{Talk};
-ghost use Rattle.ax_text.specs.Controls.{Control, Done, Cursor, Event, slots, waiting, is_done, request_at};
+ghost use Rattle.ax_text.specs.Run.{Talk, World};
+ghost use Rattle.ax_text.specs.Controls.{Control, Done, Cursor, Event, Going, slots, waiting, is_done, request_at};
 ghost use Rattle.ax_text.specs.Suits.{Suits, AsksSuit, fits_in};
 ghost use Rattle.ax_text.specs.Sound.{Split, IsWakeful, IsWaiting, BeginsSound, GivesSound};
+ghost use Rattle.ax_text.specs.Silent.{BeginTells, GiveTells, StepsSilently, BeginsAtOnce, ServesAtOnce, ServesMore};
 ghost use Rattle.ax_text.specs.Futures.{ComesToRun, EndsAsRun, StaysWithin, AsksAtBegin, AsksAtGive};
 ghost use Rattle.ax_text.specs.Rows.{Row, IsAccepted, follow, widened_by, now_of, text_of, wide, Body};
 
@@ -57,6 +58,21 @@ pub fn done_where_nothing_waits()
 pub fn asks_are_what_waits()
     ensures begin { (f : Facts) (k : Cursor) (used : List ℕ) (t : Talk) → AsksAtBegin f k used t }
     ensures give { (f : Facts) (c : Control) (s : ℕ) (a : AnyAnswer) (t : Talk) → AsksAtGive f c s a t }
+{}
+
+/// What was said before makes no difference to a callback: from nothing said it leaves the same, and what it says comes behind. So a program may begin each callback with nothing said.
+#[tactic(auto, using(crate::proofs::Telling::begin_tells, crate::proofs::Telling::give_tells, crate::proofs::Telling::steps_silently))]
+pub fn callbacks_say_behind()
+    ensures begin { (f : Facts) (k : Cursor) (used : List ℕ) (t : Talk) → BeginTells f k used t }
+    ensures give { (f : Facts) (c : Control) (s : ℕ) (a : AnyAnswer) (t : Talk) → GiveTells f c s a t }
+    ensures step { (f : Facts) (s : ℕ) (a : AnyAnswer) (g : Going) → StepsSilently f s a g }
+{}
+
+/// A program that serves each request and gives its answer at once, each callback from nothing said, comes to the run of an accepted text. While a request waits, fewer requests were served than the run serves.
+pub fn answered_at_once_comes_to_the_run()
+    ensures begin { (f : Facts) (text : Text) (cells : Cells) → BeginsAtOnce f text cells }
+    ensures serve { (n : ℕ) (kinds : List Kind) (f : Facts) (c : Control) (s : ℕ) (r : AnyRequest) (w : World) → ServesAtOnce n kinds f c s r w }
+    ensures more { (n : ℕ) (kinds : List Kind) (f : Facts) (c : Control) (s : ℕ) (r : AnyRequest) (w : World) → ServesMore n kinds f c s r w }
 {}
 
 /// Lines of a handler that pass the tests of arms one after another make a text whose arms are silent and apart.
