@@ -8,12 +8,12 @@ ghost use Rattle.ax_text.specs.Cells.{Cells};
 ghost use Rattle.ax_text.specs.Texts.{Text};
 ghost use Rattle.ax_text.specs.Programs.{width};
 ghost use Rattle.ax_text.specs.Run.{Talk, World};
-ghost use Rattle.ax_text.specs.Controls.{Control, Done, Cursor, Event, Going, slots, waiting, is_done, request_at, give};
+ghost use Rattle.ax_text.specs.Controls.{Ask', Control, Done, least_free, Cursor, Event, Going, slots, waiting, is_done, request_at, give};
 ghost use Rattle.ax_text.specs.Prints.{has};
 ghost use Rattle.ax_text.specs.Suits.{Suits, AsksSuit, fits_in};
 ghost use Rattle.ax_text.specs.Sound.{Split, IsWakeful, IsWaiting, BeginsSound, GivesSound};
 ghost use Rattle.ax_text.specs.Silent.{BeginTells, GiveTells, StepsSilently, BeginsAtOnce, ServesAtOnce, ServesMore};
-ghost use Rattle.ax_text.specs.Underway.{ServesAt, GivesAt, StartsUnderway, StepsUnderway};
+ghost use Rattle.ax_text.specs.Underway.{ServesAt, GivesAt, StartsUnderway, StepsUnderway, KeepsSlots, TakesLeast, BeginTakesLeast, GiveTakesLeast, IsLeastFree, SlotsRise, ArmsCommute};
 ghost use Rattle.ax_text.specs.Futures.{ComesToRun, EndsAsRun, StaysWithin, AsksAtBegin, AsksAtGive};
 ghost use Rattle.ax_text.specs.Rows.{Row, IsAccepted, follow, widened_by, now_of, text_of, wide, Body};
 
@@ -91,6 +91,25 @@ pub fn a_serve_takes_one()
 /// Giving an answer that was served takes none of the requests that are left: the handler comes to the same, and has moved.
 pub fn an_answer_takes_none()
     ensures { (f : Facts) (g : Going) (s : ℕ) (a : AnyAnswer) → GivesAt f g s a }
+{}
+
+/// The slots of an accepted text differ, there are at most as many as the text is wide, and each is below that.
+pub fn slots_stay_apart_and_low()
+    ensures { (n : ℕ) (f : Facts) (text : Text) (cells : Cells) (events : List Event) → KeepsSlots n f text cells events }
+{}
+
+/// Each request that a callback asks takes the least slot that is free then, so slots rise in the order in which they are asked.
+pub fn the_least_slot_is_taken()
+    ensures begin { (f : Facts) (k : Cursor) (used : List ℕ) (t : Talk) → BeginTakesLeast f k used t }
+    ensures give { (f : Facts) (c : Control) (s : ℕ) (a : AnyAnswer) (t : Talk) → GiveTakesLeast f c s a t }
+    ensures rise { (used : List ℕ) (asks : List Ask') → TakesLeast used asks → SlotsRise asks }
+    ensures least { (used : List ℕ) → IsLeastFree used (least_free used) }
+{}
+
+/// The arms of an accepted text may run in either order.
+#[tactic(auto, using(crate::proofs::Commuting::arms_commute))]
+pub fn arms_commute()
+    ensures { (f : Facts) (one : Text) (two : Text) (rest : Text) (w : World) → ArmsCommute f one two rest w }
 {}
 
 /// Where a request waits, its answer changes the control.
