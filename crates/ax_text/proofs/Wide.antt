@@ -110,4 +110,4 @@ module _ (f : Facts) where
 
   pub stays_within : (t : Text) (cells : Cells) (es : List Event) → StaysWithin f t cells es
   unfolding CursorWide FrameWide
-  stays_within t cells es a = slots_wide (width t) (going f t cells es).control (steps_wide (width t) es (started f t (begun cells)) (begin_wide (width t) (Rest t ∷ []) [] (begun cells).talk (omega arith, tt)))
+  stays_within t cells es = slots_wide (width t) (going f t cells es).control (steps_wide (width t) es (started f t (begun cells)) (begin_wide (width t) (Rest t ∷ []) [] (begun cells).talk (omega arith, tt)))

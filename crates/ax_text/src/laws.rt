@@ -17,13 +17,13 @@ ghost use Rattle.ax_text.specs.Underway.{ServesAt, GivesAt, StartsUnderway, Step
 ghost use Rattle.ax_text.specs.Futures.{ComesToRun, EndsAsRun, StaysWithin, AsksAtBegin, AsksAtGive};
 ghost use Rattle.ax_text.specs.Rows.{Row, IsAccepted, follow, widened_by, now_of, text_of, wide, Body};
 
-/// Whatever the order in which the requests of a handler are served and their answers given, what was done and what is still to be done come together to what its run does.
+/// Whatever the order in which the requests of a handler of an accepted text are served and their answers given, what was done and what is still to be done come together to what its run does.
 #[tactic(auto, using(crate::proofs::Going::comes_to_run))]
 pub fn futures_come_to_the_run()
     ensures { (f : Facts) (t : Text) (cells : Cells) (events : List Event) → ComesToRun f t cells events }
 {}
 
-/// Where a handler is done, what it leaves is what its run leaves.
+/// Where a handler of an accepted text is done, what it leaves is what its run leaves.
 #[tactic(auto, using(crate::proofs::Going::ends_as_run))]
 pub fn futures_end_as_the_run()
     ensures { (f : Facts) (t : Text) (cells : Cells) (events : List Event) → EndsAsRun f t cells events }
