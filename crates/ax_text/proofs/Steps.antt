@@ -57,7 +57,7 @@ mem_two s xs ys h = mem_append s xs ys ∙ (ap (λ (b : Bool). has s xs || b) h 
     of true = refl
     of false = refl
 
-mem_le : (n : ℕ) (xs : List ℕ) → has n xs ≡ true → n ≤ total xs
+pub mem_le : (n : ℕ) (xs : List ℕ) → has n xs ≡ true → n ≤ total xs
 mem_le n [] h = absurd (both_ways false refl h)
 mem_le n (x ∷ xs) h = by_cases (nat_eq n x)
     (λ e. let s : n ≡ x = eqb-true n x e in omega arith)

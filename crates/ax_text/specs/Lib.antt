@@ -15,4 +15,7 @@ pub mod Footprints
 pub mod Futures
 pub mod Rows
 pub mod Widths
+pub mod Suits
 pub mod Sound
+pub mod Silent
+pub mod Underway
