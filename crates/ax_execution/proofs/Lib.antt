@@ -1,3 +1,4 @@
+pub mod Cases
 pub mod GivenUp
 pub mod Measure
 pub mod Cut

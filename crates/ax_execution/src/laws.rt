@@ -16,7 +16,7 @@ ghost use Rattle.ax_execution.specs.Turns.{admit, mark, fire, start, serve, deli
 ghost use Rattle.ax_execution.specs.Rest.{settled, silent_part, owed, part_work};
 ghost use Rattle.ax_execution.specs.Machine.{Machine, Happening, Start, Serve, Deliver, Rules, happens, outcome, taken, machine_from, machine_of, in_flight, work, IsAtRest, IsWork};
 ghost use Rattle.ax_execution.specs.Allowed.{NoneIsIdle, IsFinished, Allowed, IsRun};
-ghost use Rattle.ax_execution.specs.Counts.{one_if_gone, references, epoch_count, number_count};
+ghost use Rattle.ax_execution.specs.Counts.{one_if_gone, references, epoch_count, number_count, made, made_as, calls, counted};
 ghost use Rattle.ax_execution.specs.Tests.{allowed, runs};
 
 /// Before the first event is an origin, and the plain threads from there are the plain threads.
@@ -78,15 +78,14 @@ pub fn one_owner_and_limit()
         → ((machine_of g p from es).parts k).owner ≡ Some c → 0 < references c.stage }
 {}
 
-/// A context is given up exactly at the event whose outcome says so: then one fewer is in flight, and else, behind Start, Serve and
-/// Deliver, as many as before.
+/// Admit and Fire make one context. One is given up exactly at an event whose outcome says so, the one whose callback has run;
+/// no other event changes how many are in flight, nor how many have a number.
 pub fn contexts_are_given_up()
-    ensures start { (r : Rules) (g : ℕ) (p : Program) (from : Origin) (es : List Happening) (k : Key) → AreAccepted p → IsOrigin p from → IsRun r g p es (machine_from from) → Allowed r (Start k) (machine_of g p from es)
-        → in_flight (happens g p (Start k) (machine_of g p from es)) + one_if_gone (outcome g p (Start k) (machine_of g p from es)).gone ≡ in_flight (machine_of g p from es) }
-    ensures serve { (r : Rules) (g : ℕ) (p : Program) (from : Origin) (es : List Happening) (k : Key) (slot : ℕ) → AreAccepted p → IsOrigin p from → IsRun r g p es (machine_from from) → Allowed r (Serve k slot) (machine_of g p from es)
-        → in_flight (happens g p (Serve k slot) (machine_of g p from es)) ≡ in_flight (machine_of g p from es) }
-    ensures deliver { (r : Rules) (g : ℕ) (p : Program) (from : Origin) (es : List Happening) (k : Key) (slot : ℕ) → AreAccepted p → IsOrigin p from → IsRun r g p es (machine_from from) → Allowed r (Deliver k slot) (machine_of g p from es)
-        → in_flight (happens g p (Deliver k slot) (machine_of g p from es)) + one_if_gone (outcome g p (Deliver k slot) (machine_of g p from es)).gone ≡ in_flight (machine_of g p from es) }
+    ensures flight { (r : Rules) (g : ℕ) (p : Program) (from : Origin) (es : List Happening) (e : Happening) → AreAccepted p → IsOrigin p from → IsRun r g p es (machine_from from) → Allowed r e (machine_of g p from es)
+        → in_flight (happens g p e (machine_of g p from es)) + one_if_gone (outcome g p e (machine_of g p from es)).gone ≡ in_flight (machine_of g p from es) + made e }
+    ensures numbers { (r : Rules) (g : ℕ) (p : Program) (from : Origin) (es : List Happening) (e : Happening) (n : ℕ) → AreAccepted p → IsOrigin p from → IsRun r g p es (machine_from from) → Allowed r e (machine_of g p from es)
+        → number_count n (happens g p e (machine_of g p from es)) + counted (calls n e (machine_of g p from es)) (one_if_gone (outcome g p e (machine_of g p from es)).gone)
+        ≡ number_count n (machine_of g p from es) + made_as n e }
 {}
 
 /// With room for one context the machine is never stuck: where no event is allowed that takes nothing of the input, it is at rest.
