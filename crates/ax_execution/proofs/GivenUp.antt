@@ -286,7 +286,7 @@ given_length j x slot a h =
     let d : length (slots x.control) ≡ length (waiting x.control) = asked_length x.control in
     omega arith
 
-stage_good : (c : Context) (x : Running) → OwnerGood Good (Some c) → c.stage ≡ Begun x → Good x
+pub stage_good : (c : Context) (x : Running) → OwnerGood Good (Some c) → c.stage ≡ Begun x → Good x
 unfolding OwnerGood StageGood
 stage_good c x g e = subst (StageGood Good) e g
 

@@ -1,5 +1,8 @@
 pub mod Cases
+pub mod Asking
 pub mod GivenUp
+pub mod References
+pub mod Waits
 pub mod Measure
 pub mod Cut
 pub mod Numbers

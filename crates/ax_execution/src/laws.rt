@@ -1,5 +1,5 @@
 //! Laws of the machine, over all key groups, programs whose handlers are accepted, rules and runs from the start.
-ghost use Rattle.std.specs.Prelude.{◌≡◌, ℕ, suc, ◌+◌, ◌≤◌, ◌<◌, ℤ, List, [], ◌∷◌, ◌++◌, true, false, Some, None};
+ghost use Rattle.std.specs.Prelude.{◌≡◌, ℕ, suc, ◌+◌, ◌≤◌, ◌<◌, ℤ, List, [], ◌∷◌, ◌++◌, length, true, false, Some, None};
 ghost use Rattle.ax_text.specs.Exprs.{Facts};
 ghost use Rattle.ax_text.specs.Programs.{Program};
 ghost use Rattle.ax_machine.specs.Entries.{Key, lines_of};
@@ -7,16 +7,18 @@ ghost use Rattle.ax_machine.specs.Events.{Event, without_skipped};
 ghost use Rattle.ax_machine.specs.KeySync.{key_sync};
 ghost use Rattle.ax_machine.specs.Sync.{sync};
 ghost use Rattle.ax_machine.specs.Lawful.{Lawful, LawfulSoFar};
-ghost use Rattle.ax_text.specs.Controls.{is_done};
+ghost use Rattle.ax_text.specs.Prints.{has};
+ghost use Rattle.ax_text.specs.Controls.{is_done, slots, waiting};
 ghost use Rattle.ax_execution.specs.Accepted.{AreAccepted};
-ghost use Rattle.ax_execution.specs.Contexts.{Running, Begun, Context, Waiting, Mark, Part, rows_in, may_fire};
+ghost use Rattle.ax_execution.specs.Contexts.{Running, Unbegun, Begun, Context, Waiting, Mark, Part, rows_in, may_fire};
 ghost use Rattle.ax_execution.specs.KeyControls.{control_of, bare, SeesControl, owner_answer, keeps_answer};
 ghost use Rattle.ax_execution.specs.Origins.{Origin, IsOrigin, first, sync_from, key_sync_from, IsProjectedFrom};
 ghost use Rattle.ax_execution.specs.Turns.{admit, mark, fire, start, serve, deliver, start_effects, deliver_effects};
 ghost use Rattle.ax_execution.specs.Rest.{settled, silent_part, owed, part_work};
 ghost use Rattle.ax_execution.specs.Machine.{Machine, Happening, Start, Serve, Deliver, Rules, happens, outcome, taken, machine_from, machine_of, in_flight, work, IsAtRest, IsWork};
 ghost use Rattle.ax_execution.specs.Allowed.{NoneIsIdle, IsFinished, Allowed, IsRun};
-ghost use Rattle.ax_execution.specs.Counts.{one_if_gone, references, epoch_count, number_count, made, made_as, calls, counted};
+ghost use Rattle.ax_execution.specs.Counts.{AreDistinct, one_if_gone, references, reference_count, epoch_count, number_count, made, made_as, calls, counted};
+ghost use Rattle.ax_execution.specs.Asks.{owner_waits, waits_behind, SlotsRise, AreOutside, slots_beside};
 ghost use Rattle.ax_execution.specs.Tests.{allowed, runs};
 
 /// Before the first event is an origin, and the plain threads from there are the plain threads.
@@ -86,6 +88,38 @@ pub fn contexts_are_given_up()
     ensures numbers { (r : Rules) (g : ℕ) (p : Program) (from : Origin) (es : List Happening) (e : Happening) (n : ℕ) → AreAccepted p → IsOrigin p from → IsRun r g p es (machine_from from) → Allowed r e (machine_of g p from es)
         → number_count n (happens g p e (machine_of g p from es)) + counted (calls n e (machine_of g p from es)) (one_if_gone (outcome g p e (machine_of g p from es)).gone)
         ≡ number_count n (machine_of g p from es) + made_as n e }
+{}
+
+/// The references of a context are its requests that wait, each at a slot of its own, and one until its start has ended. They rise by
+/// what a callback asks and fall by one as it ends. A context is in flight exactly while it has some, and it is given up exactly at
+/// the event that leaves none. Answers stand only at slots that wait.
+pub fn references_are_counted()
+    ensures unbegun { references Unbegun ≡ 1 }
+    ensures waiting { (running : Running) → references (Begun running) ≡ length (waiting running.control) }
+    ensures slots { (r : Rules) (g : ℕ) (p : Program) (from : Origin) (es : List Happening) (k : Key) (c : Context) (running : Running) → AreAccepted p → IsOrigin p from → IsRun r g p es (machine_from from)
+        → ((machine_of g p from es).parts k).owner ≡ Some c → c.stage ≡ Begun running → AreDistinct (slots running.control) }
+    ensures answers { (r : Rules) (g : ℕ) (p : Program) (from : Origin) (es : List Happening) (k : Key) (c : Context) (running : Running) (slot : ℕ) → AreAccepted p → IsOrigin p from → IsRun r g p es (machine_from from)
+        → ((machine_of g p from es).parts k).owner ≡ Some c → c.stage ≡ Begun running → has slot (slots running.control) ≡ false → running.answers slot ≡ None }
+    ensures changes { (r : Rules) (g : ℕ) (p : Program) (from : Origin) (es : List Happening) (e : Happening) (n : ℕ) → AreAccepted p → IsOrigin p from → IsRun r g p es (machine_from from) → Allowed r e (machine_of g p from es)
+        → reference_count n (happens g p e (machine_of g p from es)) + counted (calls n e (machine_of g p from es)) 1
+        ≡ reference_count n (machine_of g p from es) + (made_as n e + counted (calls n e (machine_of g p from es)) (length (outcome g p e (machine_of g p from es)).asks)) }
+    ensures live { (r : Rules) (g : ℕ) (p : Program) (from : Origin) (es : List Happening) (n : ℕ) → AreAccepted p → IsOrigin p from → IsRun r g p es (machine_from from)
+        → (number_count n (machine_of g p from es) ≡ 0 → reference_count n (machine_of g p from es) ≡ 0) × (reference_count n (machine_of g p from es) ≡ 0 → number_count n (machine_of g p from es) ≡ 0) }
+    ensures gone { (r : Rules) (g : ℕ) (p : Program) (from : Origin) (es : List Happening) (e : Happening) (n : ℕ) → AreAccepted p → IsOrigin p from → IsRun r g p es (machine_from from) → Allowed r e (machine_of g p from es)
+        → calls n e (machine_of g p from es) ≡ true → (outcome g p e (machine_of g p from es)).gone ≡ true → reference_count n (happens g p e (machine_of g p from es)) ≡ 0 }
+    ensures last { (r : Rules) (g : ℕ) (p : Program) (from : Origin) (es : List Happening) (e : Happening) (n : ℕ) → AreAccepted p → IsOrigin p from → IsRun r g p es (machine_from from) → Allowed r e (machine_of g p from es)
+        → calls n e (machine_of g p from es) ≡ true → reference_count n (happens g p e (machine_of g p from es)) ≡ 0 → (outcome g p e (machine_of g p from es)).gone ≡ true }
+{}
+
+/// What a callback asks is what its context waits for behind it and did not before: at its start just that, at a delivery that in the
+/// place of what was answered. Its slots rise, and none is one that still waits. No other event asks, nor changes what waits.
+pub fn asks_are_what_waits()
+    ensures waits { (r : Rules) (g : ℕ) (p : Program) (from : Origin) (es : List Happening) (e : Happening) (k : Key) → AreAccepted p → IsOrigin p from → IsRun r g p es (machine_from from) → Allowed r e (machine_of g p from es)
+        → owner_waits ((happens g p e (machine_of g p from es)).parts k).owner ≡ waits_behind k e (outcome g p e (machine_of g p from es)).asks (owner_waits ((machine_of g p from es).parts k).owner) }
+    ensures rise { (r : Rules) (g : ℕ) (p : Program) (from : Origin) (es : List Happening) (e : Happening) → AreAccepted p → IsOrigin p from → IsRun r g p es (machine_from from) → Allowed r e (machine_of g p from es)
+        → SlotsRise (outcome g p e (machine_of g p from es)).asks }
+    ensures new { (r : Rules) (g : ℕ) (p : Program) (from : Origin) (es : List Happening) (k : Key) (slot : ℕ) → AreAccepted p → IsOrigin p from → IsRun r g p es (machine_from from) → Allowed r (Deliver k slot) (machine_of g p from es)
+        → AreOutside (slots_beside slot (owner_waits ((machine_of g p from es).parts k).owner)) (outcome g p (Deliver k slot) (machine_of g p from es)).asks }
 {}
 
 /// With room for one context the machine is never stuck: where no event is allowed that takes nothing of the input, it is at rest.
