@@ -1,5 +1,7 @@
 -- The references of a context, and what of an epoch is left.
 use Rattle.std.specs.Prelude.{◌≡◌, ℕ, ◌+◌, nat_eq, List, [], ◌∷◌, length, Bool, true, false, if◌then◌else◌, Option, Some, None}
+use Rattle.ax_text.specs.declared.vocabulary.Handler.{Handler}
+use Rattle.ax_text.specs.declared.vocabulary.Handler.TheVariants as handler
 use Rattle.ax_text.specs.Prints.{has}
 use Rattle.ax_text.specs.Controls.{slots}
 use Rattle.ax_execution.specs.Contexts.{Stage, Unbegun, Begun, Context, Waiting, Row, Mark, Part}
@@ -19,9 +21,14 @@ AreDistinct (s ∷ ss) = (has s ss ≡ false) × AreDistinct ss
 abbrev pub one_at : ℕ → ℕ → ℕ
 one_at e f = if nat_eq f e then 1 else 0
 
+-- one for a row of an epoch; a firing is covered by its mark
+abbrev pub row_of_epoch : ℕ → Handler → ℕ → ℕ
+row_of_epoch e handler.Row f = one_at e f
+row_of_epoch e handler.Timer f = 0
+
 abbrev pub owner_of_epoch : ℕ → Option Context → ℕ
 owner_of_epoch e None = 0
-owner_of_epoch e (Some c) = one_at e c.epoch
+owner_of_epoch e (Some c) = row_of_epoch e c.job.handler c.epoch
 
 abbrev pub waiting_of_epoch : ℕ → List Waiting → ℕ
 waiting_of_epoch e [] = 0
@@ -31,7 +38,7 @@ waiting_of_epoch e (Mark f w more ∷ is) = one_at e f + waiting_of_epoch e is
 abbrev pub part_of_epoch : ℕ → Part → ℕ
 part_of_epoch e part = owner_of_epoch e part.owner + waiting_of_epoch e part.waiting
 
--- the contexts and marks of an epoch
+-- the contexts of rows of an epoch, and its marks
 abbrev pub epoch_count : ℕ → Machine → ℕ
 epoch_count e m = total m.keys (λ k. part_of_epoch e (m.parts k))
 

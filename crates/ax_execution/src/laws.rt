@@ -10,7 +10,7 @@ ghost use Rattle.ax_machine.specs.Lawful.{Lawful, LawfulSoFar};
 ghost use Rattle.ax_text.specs.Prints.{has};
 ghost use Rattle.ax_text.specs.Controls.{is_done, slots, waiting};
 ghost use Rattle.ax_execution.specs.Accepted.{AreAccepted};
-ghost use Rattle.ax_execution.specs.Contexts.{Running, Unbegun, Begun, Context, Waiting, Mark, Part, rows_in, may_fire};
+ghost use Rattle.ax_execution.specs.Contexts.{Running, Unbegun, Begun, Context, Waiting, Mark, Part, rows_in, may_fire, is_idle};
 ghost use Rattle.ax_execution.specs.KeyControls.{control_of, bare, SeesControl, owner_answer, keeps_answer};
 ghost use Rattle.ax_execution.specs.Origins.{Origin, IsOrigin, first, sync_from, key_sync_from, IsProjectedFrom};
 ghost use Rattle.ax_execution.specs.Turns.{admit, mark, fire, start, serve, deliver, start_effects, deliver_effects};
@@ -62,13 +62,15 @@ pub fn written_is_lawful()
         → Lawful r.serial (machine_of g p from es).written (sync_from g p from (taken es)).entries }
 {}
 
-/// Never more contexts are in flight than the limit; rows wait only behind an owner, or behind a key that must fire;
-/// and a handler that has begun waits for an answer. No two contexts have one number. The mark in front of a key without owner
+/// Never more contexts are in flight than the limit; rows wait only behind an owner, or where their own key must fire; a key that must
+/// fire is idle, and there is room for its context; and a handler that has begun waits for an answer. No two contexts have one number. The mark in front of a key without owner
 /// is due. The owner of a key has a reference left: a callback that hasn't ended.
 pub fn one_owner_and_limit()
     ensures limit { (r : Rules) (g : ℕ) (p : Program) (from : Origin) (es : List Happening) → AreAccepted p → IsOrigin p from → IsRun r g p es (machine_from from) → in_flight (machine_of g p from es) ≤ r.limit }
-    ensures rows { (r : Rules) (g : ℕ) (p : Program) (from : Origin) (es : List Happening) (k : Key) → AreAccepted p → IsOrigin p from → IsRun r g p es (machine_from from) → (machine_of g p from es).must ≡ None
+    ensures rows { (r : Rules) (g : ℕ) (p : Program) (from : Origin) (es : List Happening) (k : Key) → AreAccepted p → IsOrigin p from → IsRun r g p es (machine_from from) → ((machine_of g p from es).must ≡ Some k → ⊥)
         → ((machine_of g p from es).parts k).owner ≡ None → rows_in ((machine_of g p from es).parts k).waiting ≡ 0 }
+    ensures room { (r : Rules) (g : ℕ) (p : Program) (from : Origin) (es : List Happening) (k : Key) → AreAccepted p → IsOrigin p from → IsRun r g p es (machine_from from) → (machine_of g p from es).must ≡ Some k
+        → (is_idle ((machine_of g p from es).parts k) ≡ true) × (in_flight (machine_of g p from es) < r.limit) }
     ensures awake { (r : Rules) (g : ℕ) (p : Program) (from : Origin) (es : List Happening) (k : Key) (c : Context) (running : Running) → AreAccepted p → IsOrigin p from → IsRun r g p es (machine_from from)
         → ((machine_of g p from es).parts k).owner ≡ Some c → c.stage ≡ Begun running → is_done running.control ≡ false }
     ensures numbers { (r : Rules) (g : ℕ) (p : Program) (from : Origin) (es : List Happening) (n : ℕ) → AreAccepted p → IsOrigin p from → IsRun r g p es (machine_from from)
@@ -136,14 +138,17 @@ pub fn work_falls()
     ensures silent { (p : Program) (part : Part) → AreAccepted p → part_work p part ≡ part_work p (silent_part part) }
 {}
 
-/// Where nothing is in flight, every marker is sent and no key may fire, the machine is at rest, and only there.
+/// Where nothing is in flight and every marker is sent, the machine is at rest, and only there. No key waits to fire there.
 pub fn rest_is_seen_from_outside()
     ensures enough { (r : Rules) (g : ℕ) (p : Program) (from : Origin) (es : List Happening) → AreAccepted p → IsOrigin p from → IsRun r g p es (machine_from from)
-        → in_flight (machine_of g p from es) ≡ 0 → (machine_of g p from es).unsent ≡ [] → NoneIsIdle (machine_of g p from es) → IsAtRest (machine_of g p from es) }
+        → in_flight (machine_of g p from es) ≡ 0 → (machine_of g p from es).unsent ≡ [] → IsAtRest (machine_of g p from es) }
     ensures needed { (m : Machine) → IsAtRest m → (in_flight m ≡ 0) × (m.unsent ≡ []) × NoneIsIdle m }
+    ensures none_must { (r : Rules) (g : ℕ) (p : Program) (from : Origin) (es : List Happening) → AreAccepted p → IsOrigin p from → IsRun r g p es (machine_from from)
+        → IsAtRest (machine_of g p from es) → (machine_of g p from es).must ≡ None }
 {}
 
-/// A closed epoch is finished exactly where neither it nor an earlier one has a context or a mark.
+/// A closed epoch is finished exactly where no context of a row of it or of an earlier one is in flight, and no mark of them is left:
+/// a firing is covered by its mark.
 pub fn finished_epochs_count_nothing()
     ensures finished { (e : ℕ) (m : Machine) → IsFinished e m → (u : ℕ) → u ≤ e → epoch_count u m ≡ 0 }
     ensures counts { (r : Rules) (g : ℕ) (p : Program) (from : Origin) (es : List Happening) (e : ℕ) → AreAccepted p → IsOrigin p from → IsRun r g p es (machine_from from)
