@@ -114,7 +114,7 @@ begin_law p a j s =
     ∙ ap (said_with j s.state.times s.groups) (begin_left j.facts (text_for p j.handler) (silent_talk (λ i. pos 0)) s.state.cells (text_accepted p a j.handler))
 
 -- an answer stands at a slot that waits
-waits_here : (r : Running) (slot : ℕ) (a : Answer) → Good r → r.answers slot ≡ Some a → has slot (slots r.control) ≡ true
+pub waits_here : (r : Running) (slot : ℕ) (a : Answer) → Good r → r.answers slot ≡ Some a → has slot (slots r.control) ≡ true
 waits_here r slot a g h = by_cases (has slot (slots r.control)) (λ x. x) (λ x. absurd (some_none (sym h ∙ g.blank slot x)))
 
 module _ (f : Facts) (r : Running) (slot : ℕ) (a : Answer) (g : Good r) (h : r.answers slot ≡ Some a) where

@@ -1,4 +1,9 @@
+pub mod Cases
+pub mod Asking
 pub mod GivenUp
+pub mod References
+pub mod Epochs
+pub mod Waits
 pub mod Measure
 pub mod Cut
 pub mod Numbers

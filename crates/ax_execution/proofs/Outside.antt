@@ -6,6 +6,8 @@ use Rattle.std.specs.List.{list_any}
 use Rattle.ax_text.specs.Programs.{Program}
 use Rattle.ax_text.specs.Controls.{Control, slots, request_at}
 use Rattle.ax_text.specs.declared.vocabulary.Request.{Request}
+use Rattle.ax_text.specs.declared.vocabulary.Handler.{Handler}
+use Rattle.ax_text.specs.declared.vocabulary.Handler.TheVariants as handler
 use Rattle.ax_text.specs.Prints.{has}
 use Rattle.ax_execution.proofs.Handles.{Handles}
 use Rattle.ax_execution.proofs.Wakeful.{slot_waits}
@@ -13,11 +15,12 @@ use Rattle.ax_machine.specs.Entries.{Key}
 use Rattle.ax_execution.specs.Contexts.{Running, Stage, Unbegun, Begun, Context, Waiting, Row, Mark, contexts_in, owners, rows_in, is_idle_with}
 use Rattle.ax_execution.specs.Machine.{ByWatermark, ByBarrier, Closed, Machine, Happening, Admit, Close, Fire, Start, Serve, Deliver, Send, Rules, send_first, happens, sends_first, outcome, in_flight, IsAtRest}
 use Rattle.ax_execution.specs.Allowed.{NoneIsIdle, OwnedLater, WaitLater, IsFinished}
-use Rattle.ax_execution.specs.Counts.{references, one_at, owner_of_epoch, waiting_of_epoch, part_of_epoch, epoch_count}
+use Rattle.ax_execution.specs.Counts.{references, one_at, row_of_epoch, owner_of_epoch, waiting_of_epoch, part_of_epoch, epoch_count}
 use Rattle.ax_execution.proofs.Upto.{by_cases, StageGood, OwnerGood}
 use Rattle.ax_execution.proofs.KeySums.{in_total}
 use Rattle.ax_execution.proofs.Stuck.{zeros, StageWakes, IsAwake}
 use Rattle.ax_execution.proofs.Orderly.{IsOrderly}
+use Rattle.ax_execution.proofs.Epochs.{FrontIsOf, HandlerCovered, OwnerCovered, IsPunctual, none_wait}
 
 false_true : false ≡ true → ⊥
 false_true e = cc e
@@ -46,27 +49,30 @@ no_owner : (o : Option Context) → owners o ≡ 0 → o ≡ None
 no_owner None h = refl
 no_owner (Some c) h = absurd (omega (arith, h))
 
-no_waiting : (is : List Waiting) → rows_in is ≡ 0 → is_idle_with None is ≡ false → is ≡ []
-no_waiting [] h i = refl
-no_waiting (Row n e f ∷ is) h i = absurd (omega (arith, h))
-no_waiting (Mark e w more ∷ is) h i = absurd (true_false i)
-
-module _ (r : Rules) (m : Machine) (o : IsOrderly r m) where
-  pub is_at_rest : in_flight m ≡ 0 → m.unsent ≡ [] → NoneIsIdle m → IsAtRest m
-  is_at_rest none sent idle = record { owners = free_owner; waiting = free_waiting; unsent = sent }
+module _ (r : Rules) (m : Machine) (o : IsOrderly r m) (a : IsPunctual m) (g : ℕ) (p : Program) where
+  pub is_at_rest : in_flight m ≡ 0 → m.unsent ≡ [] → IsAtRest m
+  is_at_rest none sent = record { owners = free_owner; waiting = free_waiting; unsent = sent }
     where
       empty : (k : Key) → list_any (bytes_eq k) m.keys ≡ true → contexts_in (m.parts k) ≡ 0
-      empty k x = let a : contexts_in (m.parts k) ≤ in_flight m = in_total m.keys (λ j. contexts_in (m.parts j)) k x in omega arith
+      empty k x = let c : contexts_in (m.parts k) ≤ in_flight m = in_total m.keys (λ j. contexts_in (m.parts j)) k x in omega arith
 
       free_owner : (k : Key) → (m.parts k).owner ≡ None
       free_owner k = by_cases (list_any (bytes_eq k) m.keys)
-          (λ x. no_owner (m.parts k).owner (let a : contexts_in (m.parts k) ≡ 0 = empty k x in omega arith))
+          (λ x. no_owner (m.parts k).owner (let c : contexts_in (m.parts k) ≡ 0 = empty k x in omega arith))
           (λ x. (o.absent k x).owner)
 
       free_waiting : (k : Key) → (m.parts k).waiting ≡ []
       free_waiting k = by_cases (list_any (bytes_eq k) m.keys)
-          (λ x. no_waiting (m.parts k).waiting (let a : contexts_in (m.parts k) ≡ 0 = empty k x in omega arith) (ap (λ (c : Option Context). is_idle_with c (m.parts k).waiting) (sym (free_owner k)) ∙ idle k))
+          (λ x. none_wait r m o a g p sent k (let c : contexts_in (m.parts k) ≡ 0 = empty k x in omega arith))
           (λ x. (o.absent k x).waiting)
+
+-- and no key must fire there
+pub rest_fires_none : (r : Rules) (m : Machine) → IsOrderly r m → IsAtRest m → m.must ≡ None
+rest_fires_none r m o h = of m.must refl
+  where
+    of : (x : Option Key) → m.must ≡ x → m.must ≡ None
+    of None e = e
+    of (Some k) e = absurd (true_false (sym (o.sound.room k e).0 ∙ ap₂ is_idle_with (h.owners k) (h.waiting k)))
 
 pub rest_none : (m : Machine) → IsAtRest m → (in_flight m ≡ 0) × (m.unsent ≡ []) × NoneIsIdle m
 rest_none m h = (
@@ -88,7 +94,11 @@ later e f h = by_cases (nat_lt e f) (λ x. ltb-true e f x) (λ x. absurd (h (ltb
 
 owner_none : (e u : ℕ) (c : Option Context) → u ≤ e → OwnedLater e c → owner_of_epoch u c ≡ 0
 owner_none e u None a h = refl
-owner_none e u (Some c) a h = none_later e c.epoch u a h
+owner_none e u (Some c) a h = of c.job.handler
+  where
+    of : (x : Handler) → row_of_epoch u x c.epoch ≡ 0
+    of handler.Row = none_later e c.epoch u a h
+    of handler.Timer = refl
 
 waiting_none : (e u : ℕ) (is : List Waiting) → u ≤ e → WaitLater e is → waiting_of_epoch u is ≡ 0
 waiting_none e u [] a h = refl
@@ -98,9 +108,20 @@ waiting_none e u (Mark f w more ∷ is) a h = ap₂ (λ (x y : ℕ). x + y) (non
 pub finished_counts : (e : ℕ) (m : Machine) → IsFinished e m → (u : ℕ) → u ≤ e → epoch_count u m ≡ 0
 finished_counts e m h u a = zeros (λ k. part_of_epoch u (m.parts k)) m.keys (λ k. ap₂ (λ (x y : ℕ). x + y) (owner_none e u (m.parts k).owner a (h k).0) (waiting_none e u (m.parts k).waiting a (h k).1))
 
-owner_later : (e : ℕ) (c : Option Context) → ((u : ℕ) → u ≤ e → owner_of_epoch u c ≡ 0) → OwnedLater e c
-owner_later e None h = tt
-owner_later e (Some c) h = later e c.epoch (λ a. let x : one_at c.epoch c.epoch ≡ 1 = one_here c.epoch in let y : one_at c.epoch c.epoch ≡ 0 = h c.epoch a in absurd (omega arith))
+row_later : (e : ℕ) (x : Handler) (f : ℕ) (is : List Waiting) → HandlerCovered x f is → ((u : ℕ) → u ≤ e → row_of_epoch u x f ≡ 0) → WaitLater e is → e < f
+unfolding HandlerCovered FrontIsOf
+row_later e handler.Row f is covers h waits = later e f (λ a. let x : one_at f f ≡ 1 = one_here f in let y : one_at f f ≡ 0 = h f a in absurd (omega arith))
+row_later e handler.Timer f is covers h waits = of is covers waits
+  where
+    of : (js : List Waiting) → FrontIsOf f js → WaitLater e js → e < f
+    of [] x y = absurd x
+    of (Row n d facts ∷ js) x y = absurd x
+    of (Mark d w more ∷ js) x y = let z : e < d = y.0 in omega (arith, x, z)
+
+owner_later : (e : ℕ) (c : Option Context) (is : List Waiting) → OwnerCovered c is → ((u : ℕ) → u ≤ e → owner_of_epoch u c ≡ 0) → WaitLater e is → OwnedLater e c
+unfolding OwnerCovered
+owner_later e None is covers h waits = tt
+owner_later e (Some c) is covers h waits = row_later e c.job.handler c.epoch is covers h waits
 
 waiting_later : (e : ℕ) (is : List Waiting) → ((u : ℕ) → u ≤ e → waiting_of_epoch u is ≡ 0) → WaitLater e is
 waiting_later e [] h = tt
@@ -113,11 +134,11 @@ waiting_later e (Mark f w more ∷ is) h = (
   waiting_later e is (λ u a. let y : one_at u f + waiting_of_epoch u is ≡ 0 = h u a in omega arith),
 )
 
-pub counts_finished : (r : Rules) (m : Machine) → IsOrderly r m → (e : ℕ) → ((u : ℕ) → u ≤ e → epoch_count u m ≡ 0) → IsFinished e m
-counts_finished r m o e h k = by_cases (list_any (bytes_eq k) m.keys)
-    (λ x. (
-      owner_later e (m.parts k).owner (λ u a. let y : part_of_epoch u (m.parts k) ≤ epoch_count u m = in_total m.keys (λ j. part_of_epoch u (m.parts j)) k x in let z : epoch_count u m ≡ 0 = h u a in omega arith),
-      waiting_later e (m.parts k).waiting (λ u a. let y : part_of_epoch u (m.parts k) ≤ epoch_count u m = in_total m.keys (λ j. part_of_epoch u (m.parts j)) k x in let z : epoch_count u m ≡ 0 = h u a in omega arith),
+pub counts_finished : (r : Rules) (m : Machine) → IsOrderly r m → IsPunctual m → (e : ℕ) → ((u : ℕ) → u ≤ e → epoch_count u m ≡ 0) → IsFinished e m
+counts_finished r m o a e h k = by_cases (list_any (bytes_eq k) m.keys)
+    (λ x. let waits : WaitLater e (m.parts k).waiting = waiting_later e (m.parts k).waiting (λ u b. let y : part_of_epoch u (m.parts k) ≤ epoch_count u m = in_total m.keys (λ j. part_of_epoch u (m.parts j)) k x in let z : epoch_count u m ≡ 0 = h u b in omega arith) in (
+      owner_later e (m.parts k).owner (m.parts k).waiting (a.parts k).covered (λ u b. let y : part_of_epoch u (m.parts k) ≤ epoch_count u m = in_total m.keys (λ j. part_of_epoch u (m.parts j)) k x in let z : epoch_count u m ≡ 0 = h u b in omega arith) waits,
+      waits,
     ))
     (λ x. (subst (OwnedLater e) (sym (o.absent k x).owner) tt, subst (WaitLater e) (sym (o.absent k x).waiting) tt))
 

@@ -8,6 +8,7 @@ pub mod Turns
 pub mod KeyControls
 pub mod Machine
 pub mod Counts
+pub mod Asks
 pub mod Allowed
 pub mod Tests
 pub mod Rows

@@ -1,5 +1,5 @@
 //! Laws of the machine, over all key groups, programs whose handlers are accepted, rules and runs from the start.
-ghost use Rattle.std.specs.Prelude.{◌≡◌, ℕ, suc, ◌+◌, ◌≤◌, ◌<◌, ℤ, List, [], ◌∷◌, ◌++◌, true, false, Some, None};
+ghost use Rattle.std.specs.Prelude.{◌≡◌, ℕ, suc, ◌+◌, ◌≤◌, ◌<◌, ℤ, List, [], ◌∷◌, ◌++◌, length, true, false, Some, None};
 ghost use Rattle.ax_text.specs.Exprs.{Facts};
 ghost use Rattle.ax_text.specs.Programs.{Program};
 ghost use Rattle.ax_machine.specs.Entries.{Key, lines_of};
@@ -7,16 +7,18 @@ ghost use Rattle.ax_machine.specs.Events.{Event, without_skipped};
 ghost use Rattle.ax_machine.specs.KeySync.{key_sync};
 ghost use Rattle.ax_machine.specs.Sync.{sync};
 ghost use Rattle.ax_machine.specs.Lawful.{Lawful, LawfulSoFar};
-ghost use Rattle.ax_text.specs.Controls.{is_done};
+ghost use Rattle.ax_text.specs.Prints.{has};
+ghost use Rattle.ax_text.specs.Controls.{is_done, slots, waiting};
 ghost use Rattle.ax_execution.specs.Accepted.{AreAccepted};
-ghost use Rattle.ax_execution.specs.Contexts.{Running, Begun, Context, Waiting, Mark, Part, rows_in, may_fire};
+ghost use Rattle.ax_execution.specs.Contexts.{Running, Unbegun, Begun, Context, Waiting, Mark, Part, rows_in, may_fire, is_idle};
 ghost use Rattle.ax_execution.specs.KeyControls.{control_of, bare, SeesControl, owner_answer, keeps_answer};
 ghost use Rattle.ax_execution.specs.Origins.{Origin, IsOrigin, first, sync_from, key_sync_from, IsProjectedFrom};
 ghost use Rattle.ax_execution.specs.Turns.{admit, mark, fire, start, serve, deliver, start_effects, deliver_effects};
 ghost use Rattle.ax_execution.specs.Rest.{settled, silent_part, owed, part_work};
 ghost use Rattle.ax_execution.specs.Machine.{Machine, Happening, Start, Serve, Deliver, Rules, happens, outcome, taken, machine_from, machine_of, in_flight, work, IsAtRest, IsWork};
 ghost use Rattle.ax_execution.specs.Allowed.{NoneIsIdle, IsFinished, Allowed, IsRun};
-ghost use Rattle.ax_execution.specs.Counts.{one_if_gone, references, epoch_count, number_count};
+ghost use Rattle.ax_execution.specs.Counts.{AreDistinct, one_if_gone, references, reference_count, epoch_count, number_count, made, made_as, calls, counted};
+ghost use Rattle.ax_execution.specs.Asks.{owner_waits, waits_behind, SlotsRise, AreOutside, slots_beside};
 ghost use Rattle.ax_execution.specs.Tests.{allowed, runs};
 
 /// Before the first event is an origin, and the plain threads from there are the plain threads.
@@ -60,13 +62,15 @@ pub fn written_is_lawful()
         → Lawful r.serial (machine_of g p from es).written (sync_from g p from (taken es)).entries }
 {}
 
-/// Never more contexts are in flight than the limit; rows wait only behind an owner, or behind a key that must fire;
-/// and a handler that has begun waits for an answer. No two contexts have one number. The mark in front of a key without owner
+/// Never more contexts are in flight than the limit; rows wait only behind an owner, or where their own key must fire; a key that must
+/// fire is idle, and there is room for its context; and a handler that has begun waits for an answer. No two contexts have one number. The mark in front of a key without owner
 /// is due. The owner of a key has a reference left: a callback that hasn't ended.
 pub fn one_owner_and_limit()
     ensures limit { (r : Rules) (g : ℕ) (p : Program) (from : Origin) (es : List Happening) → AreAccepted p → IsOrigin p from → IsRun r g p es (machine_from from) → in_flight (machine_of g p from es) ≤ r.limit }
-    ensures rows { (r : Rules) (g : ℕ) (p : Program) (from : Origin) (es : List Happening) (k : Key) → AreAccepted p → IsOrigin p from → IsRun r g p es (machine_from from) → (machine_of g p from es).must ≡ None
+    ensures rows { (r : Rules) (g : ℕ) (p : Program) (from : Origin) (es : List Happening) (k : Key) → AreAccepted p → IsOrigin p from → IsRun r g p es (machine_from from) → ((machine_of g p from es).must ≡ Some k → ⊥)
         → ((machine_of g p from es).parts k).owner ≡ None → rows_in ((machine_of g p from es).parts k).waiting ≡ 0 }
+    ensures room { (r : Rules) (g : ℕ) (p : Program) (from : Origin) (es : List Happening) (k : Key) → AreAccepted p → IsOrigin p from → IsRun r g p es (machine_from from) → (machine_of g p from es).must ≡ Some k
+        → (is_idle ((machine_of g p from es).parts k) ≡ true) × (in_flight (machine_of g p from es) < r.limit) }
     ensures awake { (r : Rules) (g : ℕ) (p : Program) (from : Origin) (es : List Happening) (k : Key) (c : Context) (running : Running) → AreAccepted p → IsOrigin p from → IsRun r g p es (machine_from from)
         → ((machine_of g p from es).parts k).owner ≡ Some c → c.stage ≡ Begun running → is_done running.control ≡ false }
     ensures numbers { (r : Rules) (g : ℕ) (p : Program) (from : Origin) (es : List Happening) (n : ℕ) → AreAccepted p → IsOrigin p from → IsRun r g p es (machine_from from)
@@ -78,15 +82,46 @@ pub fn one_owner_and_limit()
         → ((machine_of g p from es).parts k).owner ≡ Some c → 0 < references c.stage }
 {}
 
-/// A context is given up exactly at the event whose outcome says so: then one fewer is in flight, and else, behind Start, Serve and
-/// Deliver, as many as before.
+/// Admit and Fire make one context. One is given up exactly at an event whose outcome says so, the one whose callback has run;
+/// no other event changes how many are in flight, nor how many have a number.
 pub fn contexts_are_given_up()
-    ensures start { (r : Rules) (g : ℕ) (p : Program) (from : Origin) (es : List Happening) (k : Key) → AreAccepted p → IsOrigin p from → IsRun r g p es (machine_from from) → Allowed r (Start k) (machine_of g p from es)
-        → in_flight (happens g p (Start k) (machine_of g p from es)) + one_if_gone (outcome g p (Start k) (machine_of g p from es)).gone ≡ in_flight (machine_of g p from es) }
-    ensures serve { (r : Rules) (g : ℕ) (p : Program) (from : Origin) (es : List Happening) (k : Key) (slot : ℕ) → AreAccepted p → IsOrigin p from → IsRun r g p es (machine_from from) → Allowed r (Serve k slot) (machine_of g p from es)
-        → in_flight (happens g p (Serve k slot) (machine_of g p from es)) ≡ in_flight (machine_of g p from es) }
-    ensures deliver { (r : Rules) (g : ℕ) (p : Program) (from : Origin) (es : List Happening) (k : Key) (slot : ℕ) → AreAccepted p → IsOrigin p from → IsRun r g p es (machine_from from) → Allowed r (Deliver k slot) (machine_of g p from es)
-        → in_flight (happens g p (Deliver k slot) (machine_of g p from es)) + one_if_gone (outcome g p (Deliver k slot) (machine_of g p from es)).gone ≡ in_flight (machine_of g p from es) }
+    ensures flight { (r : Rules) (g : ℕ) (p : Program) (from : Origin) (es : List Happening) (e : Happening) → AreAccepted p → IsOrigin p from → IsRun r g p es (machine_from from) → Allowed r e (machine_of g p from es)
+        → in_flight (happens g p e (machine_of g p from es)) + one_if_gone (outcome g p e (machine_of g p from es)).gone ≡ in_flight (machine_of g p from es) + made e }
+    ensures numbers { (r : Rules) (g : ℕ) (p : Program) (from : Origin) (es : List Happening) (e : Happening) (n : ℕ) → AreAccepted p → IsOrigin p from → IsRun r g p es (machine_from from) → Allowed r e (machine_of g p from es)
+        → number_count n (happens g p e (machine_of g p from es)) + counted (calls n e (machine_of g p from es)) (one_if_gone (outcome g p e (machine_of g p from es)).gone)
+        ≡ number_count n (machine_of g p from es) + made_as n e }
+{}
+
+/// The references of a context are its requests that wait, each at a slot of its own, and one until its start has ended. They rise by
+/// what a callback asks and fall by one as it ends. A context is in flight exactly while it has some, and it is given up exactly at
+/// the event that leaves none. Answers stand only at slots that wait.
+pub fn references_are_counted()
+    ensures unbegun { references Unbegun ≡ 1 }
+    ensures waiting { (running : Running) → references (Begun running) ≡ length (waiting running.control) }
+    ensures slots { (r : Rules) (g : ℕ) (p : Program) (from : Origin) (es : List Happening) (k : Key) (c : Context) (running : Running) → AreAccepted p → IsOrigin p from → IsRun r g p es (machine_from from)
+        → ((machine_of g p from es).parts k).owner ≡ Some c → c.stage ≡ Begun running → AreDistinct (slots running.control) }
+    ensures answers { (r : Rules) (g : ℕ) (p : Program) (from : Origin) (es : List Happening) (k : Key) (c : Context) (running : Running) (slot : ℕ) → AreAccepted p → IsOrigin p from → IsRun r g p es (machine_from from)
+        → ((machine_of g p from es).parts k).owner ≡ Some c → c.stage ≡ Begun running → has slot (slots running.control) ≡ false → running.answers slot ≡ None }
+    ensures changes { (r : Rules) (g : ℕ) (p : Program) (from : Origin) (es : List Happening) (e : Happening) (n : ℕ) → AreAccepted p → IsOrigin p from → IsRun r g p es (machine_from from) → Allowed r e (machine_of g p from es)
+        → reference_count n (happens g p e (machine_of g p from es)) + counted (calls n e (machine_of g p from es)) 1
+        ≡ reference_count n (machine_of g p from es) + (made_as n e + counted (calls n e (machine_of g p from es)) (length (outcome g p e (machine_of g p from es)).asks)) }
+    ensures live { (r : Rules) (g : ℕ) (p : Program) (from : Origin) (es : List Happening) (n : ℕ) → AreAccepted p → IsOrigin p from → IsRun r g p es (machine_from from)
+        → (number_count n (machine_of g p from es) ≡ 0 → reference_count n (machine_of g p from es) ≡ 0) × (reference_count n (machine_of g p from es) ≡ 0 → number_count n (machine_of g p from es) ≡ 0) }
+    ensures gone { (r : Rules) (g : ℕ) (p : Program) (from : Origin) (es : List Happening) (e : Happening) (n : ℕ) → AreAccepted p → IsOrigin p from → IsRun r g p es (machine_from from) → Allowed r e (machine_of g p from es)
+        → calls n e (machine_of g p from es) ≡ true → (outcome g p e (machine_of g p from es)).gone ≡ true → reference_count n (happens g p e (machine_of g p from es)) ≡ 0 }
+    ensures last { (r : Rules) (g : ℕ) (p : Program) (from : Origin) (es : List Happening) (e : Happening) (n : ℕ) → AreAccepted p → IsOrigin p from → IsRun r g p es (machine_from from) → Allowed r e (machine_of g p from es)
+        → calls n e (machine_of g p from es) ≡ true → reference_count n (happens g p e (machine_of g p from es)) ≡ 0 → (outcome g p e (machine_of g p from es)).gone ≡ true }
+{}
+
+/// What a callback asks is what its context waits for behind it and did not before: at its start just that, at a delivery that in the
+/// place of what was answered. Its slots rise, and none is one that still waits. No other event asks, nor changes what waits.
+pub fn asks_are_what_waits()
+    ensures waits { (r : Rules) (g : ℕ) (p : Program) (from : Origin) (es : List Happening) (e : Happening) (k : Key) → AreAccepted p → IsOrigin p from → IsRun r g p es (machine_from from) → Allowed r e (machine_of g p from es)
+        → owner_waits ((happens g p e (machine_of g p from es)).parts k).owner ≡ waits_behind k e (outcome g p e (machine_of g p from es)).asks (owner_waits ((machine_of g p from es).parts k).owner) }
+    ensures rise { (r : Rules) (g : ℕ) (p : Program) (from : Origin) (es : List Happening) (e : Happening) → AreAccepted p → IsOrigin p from → IsRun r g p es (machine_from from) → Allowed r e (machine_of g p from es)
+        → SlotsRise (outcome g p e (machine_of g p from es)).asks }
+    ensures new { (r : Rules) (g : ℕ) (p : Program) (from : Origin) (es : List Happening) (k : Key) (slot : ℕ) → AreAccepted p → IsOrigin p from → IsRun r g p es (machine_from from) → Allowed r (Deliver k slot) (machine_of g p from es)
+        → AreOutside (slots_beside slot (owner_waits ((machine_of g p from es).parts k).owner)) (outcome g p (Deliver k slot) (machine_of g p from es)).asks }
 {}
 
 /// With room for one context the machine is never stuck: where no event is allowed that takes nothing of the input, it is at rest.
@@ -103,14 +138,17 @@ pub fn work_falls()
     ensures silent { (p : Program) (part : Part) → AreAccepted p → part_work p part ≡ part_work p (silent_part part) }
 {}
 
-/// Where nothing is in flight, every marker is sent and no key may fire, the machine is at rest, and only there.
+/// Where nothing is in flight and every marker is sent, the machine is at rest, and only there. No key waits to fire there.
 pub fn rest_is_seen_from_outside()
     ensures enough { (r : Rules) (g : ℕ) (p : Program) (from : Origin) (es : List Happening) → AreAccepted p → IsOrigin p from → IsRun r g p es (machine_from from)
-        → in_flight (machine_of g p from es) ≡ 0 → (machine_of g p from es).unsent ≡ [] → NoneIsIdle (machine_of g p from es) → IsAtRest (machine_of g p from es) }
+        → in_flight (machine_of g p from es) ≡ 0 → (machine_of g p from es).unsent ≡ [] → IsAtRest (machine_of g p from es) }
     ensures needed { (m : Machine) → IsAtRest m → (in_flight m ≡ 0) × (m.unsent ≡ []) × NoneIsIdle m }
+    ensures none_must { (r : Rules) (g : ℕ) (p : Program) (from : Origin) (es : List Happening) → AreAccepted p → IsOrigin p from → IsRun r g p es (machine_from from)
+        → IsAtRest (machine_of g p from es) → (machine_of g p from es).must ≡ None }
 {}
 
-/// A closed epoch is finished exactly where neither it nor an earlier one has a context or a mark.
+/// A closed epoch is finished exactly where no context of a row of it or of an earlier one is in flight, and no mark of them is left:
+/// a firing is covered by its mark.
 pub fn finished_epochs_count_nothing()
     ensures finished { (e : ℕ) (m : Machine) → IsFinished e m → (u : ℕ) → u ≤ e → epoch_count u m ≡ 0 }
     ensures counts { (r : Rules) (g : ℕ) (p : Program) (from : Origin) (es : List Happening) (e : ℕ) → AreAccepted p → IsOrigin p from → IsRun r g p es (machine_from from)

@@ -1,9 +1,9 @@
-use Rattle.std.proofs.Common.{◌≡◌, List, Option, Some, sym, ◌∙◌, subst, ◌⊎◌, inl, inr}
+use Rattle.std.proofs.Common.{◌≡◌, List, Option, Some, subst, ◌⊎◌, inl, inr}
 use Rattle.ax_execution.specs.Contexts.{Context, Waiting, rows_in}
 use Rattle.ax_execution.specs.Machine.{Machine, machine_of}
 use Rattle.ax_execution.proofs.Orderly.{IsOrderly, always_orderly}
 use Rattle.ax_execution.proofs.Handlers.{Good, handles}
-use Rattle.ax_execution.proofs.Stuck.{FrontFires, IsOrdered, StageWakes, IsAwake, none_some}
+use Rattle.ax_execution.proofs.Stuck.{FrontFires, IsOrdered, StageWakes, IsAwake}
 use Rattle.ax_execution.proofs.Alone.{goes_as_alone}
 use Rattle.ax_execution.proofs.Numbers.{always_apart}
 use Rattle.ax_execution.proofs.Outside.{owner_referred}
@@ -25,7 +25,10 @@ returns-clause-rows c r g p from es k accepted fits h none free = of (subst (λ 
 
     of : (rows_in (m.parts k).waiting ≡ 0) ⊎ (m.must ≡ Some k) → rows_in (m.parts k).waiting ≡ 0
     of (inl e) = e
-    of (inr e) = absurd (none_some (sym none ∙ e))
+    of (inr e) = absurd (none e)
+
+pub returns-clause-room : goal.returns-clause-room
+returns-clause-room c r g p from es k accepted fits h must = (always_orderly g p Good (handles p accepted) from fits r es h).sound.room k must
 
 pub returns-clause-awake : goal.returns-clause-awake
 unfolding IsAwake StageWakes
