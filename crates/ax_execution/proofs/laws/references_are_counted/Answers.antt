@@ -1,4 +1,4 @@
-use Rattle.std.proofs.Common.{List, [], ◌∷◌, ◌++◌, Some, refl, subst}
+use Rattle.std.proofs.Common.{[], ◌∷◌, ◌++◌, refl, subst}
 use Rattle.ax_execution.specs.Machine.{happens, machine_of, taken}
 use Rattle.ax_execution.proofs.Alone.{Alone, goes_as_alone, event_alone}
 use Rattle.ax_execution.proofs.GivenUp.{asked_length, references_change, stage_good}
