@@ -39,7 +39,7 @@ returns-clause-live c r g p from es n accepted fits run = (
 pub returns-clause-gone : goal.returns-clause-gone
 returns-clause-gone c r g p from es e n accepted fits run h calls gone = gone_unreferred r (machine_of g p from es) (always_orderly g p Good (handles p accepted) from fits r es run)
     (keys_rise g p Good (handles p accepted) from fits (machine_of g p from es) (taken es) (goes_as_alone g p Good (handles p accepted) from fits r es run))
-    (goes_as_alone g p Good (handles p accepted) from fits r es run).good g p (handles p accepted) n e h (always_apart g p Good (handles p accepted) from fits r es run n) calls gone
+    (goes_as_alone g p Good (handles p accepted) from fits r es run).good g p (handles p accepted) n e h (always_apart g p (handles p accepted) from fits r es run n) calls gone
 
 pub returns-clause-last : goal.returns-clause-last
 returns-clause-last c r g p from es e n accepted fits run h calls none =
