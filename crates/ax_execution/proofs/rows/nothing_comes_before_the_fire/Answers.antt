@@ -52,3 +52,11 @@ returns-clause-row c = refl
 pub returns-clause-row_behind : goal.returns-clause-row_behind
 unfolding digits apply_op most_firings begin give least_free
 returns-clause-row_behind c = refl
+
+pub returns-clause-number : goal.returns-clause-number
+unfolding digits apply_op most_firings begin give least_free
+returns-clause-number c = refl
+
+pub returns-clause-full : goal.returns-clause-full
+unfolding digits apply_op most_firings begin give least_free
+returns-clause-full c = refl
