@@ -1,16 +1,14 @@
 -- A callback asks at the least free slots, one after another; what it asks is what waits behind it and did not before.
-use Rattle.std.proofs.Common.{◌≡◌, ℕ, zero, suc, ◌+◌, ◌≤◌, ◌<◌, nat_eq, ℤ, pos, List, [], ◌∷◌, ◌++◌, Bool, true, false, cond, ◌&&◌, ◌||◌, if◌then◌else◌, Option, Some, None, refl, sym, ap, ap₂, ◌∙◌, arith, subst, append_assoc, append-nil, map}
+use Rattle.std.proofs.Common.{◌≡◌, ℕ, zero, suc, ◌≤◌, ◌<◌, nat_eq, pos, List, [], ◌∷◌, ◌++◌, Bool, true, false, ◌&&◌, ◌||◌, if◌then◌else◌, refl, sym, ap, ap₂, ◌∙◌, arith, subst, append_assoc, append-nil, map}
 use Rattle.std.specs.Ordering.{int_eq}
-use Rattle.std.specs.Str.{bytes_eq}
-use Rattle.std.proofs.lemmas.Bool.{and_parts, both_ways, eqb-true, eq-eqb, cond-true, cond-false}
+use Rattle.std.proofs.lemmas.Bool.{and_parts, both_ways, eqb-true, eq-eqb}
 use Rattle.ax_base.specs.declared.lists.Pair.{Pair}
 use Rattle.ax_text.specs.declared.vocabulary.Answer.{Answer}
-use Rattle.ax_text.specs.Functions.{upd}
 use Rattle.ax_text.specs.Exprs.{Facts, value}
 use Rattle.ax_text.specs.Texts.{Loop, Text, Stop, Act, Ask, If, Each, Both}
 use Rattle.ax_text.specs.Run.{Talk, with_names, act, take_in, turns_of, bind}
 use Rattle.ax_text.specs.Prints.{has}
-use Rattle.ax_text.specs.Controls.{Frame, Rest, Turns, Cursor, Next, Take, Begin, Control, Done, Wait, Arms, Ask' as Asked, Turn, slots, waiting, is_done, total, free_from, least_free, ended, also, joined, begin_text, begin_turns, begin_frame, begin, resume, give_in, without, give}
+use Rattle.ax_text.specs.Controls.{Frame, Rest, Turns, Cursor, Next, Take, Begin, Control, Done, Wait, Arms, Ask' as Asked, Turn, slots, is_done, total, free_from, least_free, ended, also, joined, begin_text, begin_turns, begin_frame, begin, resume, give_in, without, give}
 use Rattle.ax_text.proofs.Steps.{mem_left, mem_one, mem_two, fresh_ok}
 use Rattle.ax_text.proofs.Asked.{begin_asked, slots_waiting}
 use Rattle.ax_execution.specs.Asks.{AreAbove, SlotsRise, AreOutside}

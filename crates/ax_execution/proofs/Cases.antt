@@ -1,5 +1,5 @@
 -- What an allowed event of one key leaves, case by case.
-use Rattle.std.proofs.Common.{◌≡◌, ℕ, zero, suc, ℤ, int_le, List, [], ◌∷◌, ◌++◌, Bool, true, false, cond, Option, Some, None, refl, sym, ◌∙◌, subst}
+use Rattle.std.proofs.Common.{◌≡◌, ℕ, zero, suc, ℤ, int_le, List, [], ◌∷◌, ◌++◌, Bool, true, false, cond, Option, Some, None, refl}
 use Rattle.ax_text.specs.declared.vocabulary.Request.{Request}
 use Rattle.ax_text.specs.declared.vocabulary.Answer.{Answer}
 use Rattle.ax_text.specs.Functions.{upd}
@@ -11,8 +11,8 @@ use Rattle.ax_text.specs.Jobs.{firing_job}
 use Rattle.ax_machine.specs.Entries.{Key}
 use Rattle.ax_machine.specs.Sync.{without_least}
 use Rattle.ax_machine.specs.KeySync.{Said}
-use Rattle.ax_execution.specs.Contexts.{Running, Stage, Unbegun, Begun, Context, new_context, row_context, Waiting, Row, Mark, Part, is_due, may_fire, is_idle_with, is_idle}
-use Rattle.ax_execution.specs.Turns.{timed, left_by, staged, called_back, no_answers, begins, start_stage, start_owner, start, answered, applied, serve_request, serve_stage, serve_owner, serve, gives, give_answer, deliver_stage, deliver_owner, deliver, Effects, effects_of, stage_starts, owner_starts, start_effects, answer_gives, stage_gives, owner_gives, deliver_effects, fire_due, fire_front, fire, admit_at, admit, mark_at, mark}
+use Rattle.ax_execution.specs.Contexts.{Running, Stage, Unbegun, Begun, Context, new_context, row_context, Waiting, Row, Mark, Part, is_due, is_idle_with, is_idle}
+use Rattle.ax_execution.specs.Turns.{timed, left_by, staged, called_back, no_answers, begins, start_stage, start_owner, start, answered, applied, serve_request, serve_stage, serve_owner, serve, gives, give_answer, deliver_stage, deliver_owner, deliver, Effects, effects_of, stage_starts, owner_starts, start_effects, answer_gives, stage_gives, owner_gives, deliver_effects, fire_due, fire_front, fire, admit_at, mark_at}
 use Rattle.ax_execution.specs.Allowed.{StageUnbegun, StageAsks, StageHas, OfOwner}
 use Rattle.ax_execution.proofs.Upto.{part_of}
 use Rattle.ax_execution.proofs.Stuck.{FrontFires, IsOrdered, none_some}

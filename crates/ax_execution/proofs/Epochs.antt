@@ -1,8 +1,5 @@
 -- Nothing is left of an epoch whose marker was sent, marks are of closed epochs, and the mark of a firing stays in front of its key.
-use Rattle.std.proofs.Common.{◌≡◌, ℕ, suc, ◌+◌, ◌≤◌, ◌<◌, ℤ, List, [], ◌∷◌, ◌++◌, Bool, true, false, cond, Option, Some, None, refl, sym, ap, ◌∙◌, arith, subst}
-use Rattle.std.proofs.lemmas.Bool.{cond-true, cond-false}
-use Rattle.std.specs.Str.{bytes_eq}
-use Rattle.ax_text.specs.declared.vocabulary.Answer.{Answer}
+use Rattle.std.proofs.Common.{◌≡◌, ℕ, suc, ◌≤◌, ◌<◌, ℤ, List, [], ◌∷◌, ◌++◌, Bool, true, false, cond, Option, Some, None, refl, sym, ap, arith, subst}
 use Rattle.ax_text.specs.declared.vocabulary.Handler.{Handler}
 use Rattle.ax_text.specs.declared.vocabulary.Handler.TheVariants as handler
 use Rattle.ax_text.specs.Functions.{upd}
@@ -14,12 +11,12 @@ use Rattle.ax_machine.specs.Firings.{most_firings}
 use Rattle.ax_machine.specs.KeySync.{Said}
 use Rattle.ax_execution.specs.Groups.{row_facts}
 use Rattle.ax_execution.specs.Contexts.{Running, running_group, Begun, Context, Waiting, Row, Mark, Part, rows_in, may_fire}
-use Rattle.ax_execution.specs.Turns.{handed, closed_with, left_by, staged, called_back, no_answers, begins, gives, Effects, effects_of, admit, mark, fire, start, serve, deliver}
-use Rattle.ax_execution.specs.Machine.{Closing, ByWatermark, ByBarrier, Closed, Machine, Happening, Admit, Close, Fire, Start, Serve, Deliver, Send, Rules, part_at, close, send_first, happens, in_flight, after_all, taken, machine_from, machine_of, IsAtRest}
+use Rattle.ax_execution.specs.Turns.{handed, closed_with, left_by, staged, called_back, no_answers, begins, gives, Effects, admit, mark, fire, start, serve, deliver}
+use Rattle.ax_execution.specs.Machine.{Closing, ByWatermark, ByBarrier, Closed, Machine, Happening, Admit, Close, Fire, Start, Serve, Deliver, Send, Rules, part_at, send_first, happens, after_all, taken, machine_from, machine_of}
 use Rattle.ax_execution.specs.Origins.{Origin, IsOrigin}
-use Rattle.ax_execution.specs.Allowed.{NoneIsIdle, OwnedLater, WaitLater, IsFinished, FirstIsFinished, Allowed, IsRun}
+use Rattle.ax_execution.specs.Allowed.{OwnedLater, WaitLater, IsFinished, FirstIsFinished, Allowed, IsRun}
 use Rattle.ax_execution.proofs.Handles.{Handles}
-use Rattle.ax_execution.proofs.Upto.{by_cases, part_of}
+use Rattle.ax_execution.proofs.Upto.{part_of}
 use Rattle.ax_execution.proofs.Alone.{Alone, on_part, event_alone, start_alone}
 use Rattle.ax_execution.proofs.Orderly.{IsOrderly, keys_rise, event_orderly, start_orderly}
 use Rattle.ax_execution.proofs.Cases.{start_case, deliver_case, serve_case, fire_case, admit_case, mark_case}

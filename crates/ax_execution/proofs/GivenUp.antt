@@ -1,5 +1,5 @@
 -- What each event does to sums over the contexts of all keys: how many there are, how many have a number, how many references they have.
-use Rattle.std.proofs.Common.{◌≡◌, ℕ, zero, suc, ◌+◌, nat_eq, ℤ, pos, List, [], ◌∷◌, ◌++◌, length, Bool, true, false, cond, Option, Some, None, refl, sym, ap, ap₂, ◌∙◌, arith, map, subst, length-append}
+use Rattle.std.proofs.Common.{◌≡◌, ℕ, suc, ◌+◌, nat_eq, ℤ, pos, List, [], ◌∷◌, ◌++◌, length, Bool, true, false, cond, Option, Some, None, refl, sym, ap, ap₂, ◌∙◌, arith, map, subst, length-append}
 use Rattle.std.proofs.lemmas.Bool.{cond-true, cond-false}
 use Rattle.std.specs.Str.{bytes_eq}
 use Rattle.std.specs.List.{list_any}
@@ -10,7 +10,7 @@ use Rattle.ax_text.specs.declared.vocabulary.Answer.{Answer}
 use Rattle.ax_text.specs.Functions.{upd}
 use Rattle.ax_text.specs.Programs.{Program}
 use Rattle.ax_text.specs.Prints.{has}
-use Rattle.ax_text.specs.Controls.{Control, Done, Wait, Arms, Rest, Ask' as Asked, slots, waiting, replaced, is_done, begin, give}
+use Rattle.ax_text.specs.Controls.{Control, Done, Wait, Arms, Rest, Ask' as Asked, slots, waiting, replaced, is_done}
 use Rattle.ax_text.specs.Jobs.{Job, firing_job, text_for}
 use Rattle.ax_text.proofs.Asked.{begin_asked, give_asked, slots_waiting}
 use Rattle.ax_machine.specs.Entries.{Key}
@@ -27,7 +27,7 @@ use Rattle.ax_execution.specs.Allowed.{StageUnbegun, StageAsks, StageHas, Allowe
 use Rattle.ax_execution.proofs.Upto.{by_cases, part_of, StageGood, OwnerGood}
 use Rattle.ax_execution.proofs.KeySums.{changes, total_same, inserted_total, inserted_again}
 use Rattle.ax_execution.proofs.Stuck.{others_stay}
-use Rattle.ax_execution.proofs.Orderly.{IsOrderly, IsFree, present, idle_present}
+use Rattle.ax_execution.proofs.Orderly.{IsOrderly, present, idle_present}
 use Rattle.ax_execution.proofs.Handlers.{Good, waits_here}
 use Rattle.ax_execution.proofs.Cases.{start_case, deliver_case, serve_case, fire_case, admit_case, mark_case}
 
@@ -179,7 +179,6 @@ module _ (own : Context → ℕ) (row : ℕ → ℕ) (fresh : (n e : ℕ) (j : J
     fired : (k : Key) (n : ℕ) → Allowed r (Fire n k) m → part_weight own row (fire n (m.parts k)) ≡ row n + part_weight own row (m.parts k)
     fired k n h = fire_case (λ (q : Part). part_weight own row q ≡ row n + part_weight own row (m.parts k)) n (m.parts k)
         (λ e w more is t a b. fires e w more is t (m.parts k) a b) m.must k h.1 (o.sound.ordered k)
-
       where
         fires : (e : ℕ) (w : ℤ) (more : ℕ) (is : List Waiting) (t : ℤ) (part : Part) → part.owner ≡ None → part.waiting ≡ Mark e w (suc more) ∷ is
             → own (new_context n e (firing_job w t)) + rows_weight row is ≡ row n + part_weight own row part
@@ -331,8 +330,11 @@ module _ (r : Rules) (m : Machine) (o : IsOrderly r m) (rises : IsStrictlySorted
   numbers_change n e h =
       let a : mass (own_number n) (one_at n) m ≡ number_count n m = number_mass n m in
       let b : mass (own_number n) (one_at n) (happens g p e m) ≡ number_count n (happens g p e m) = number_mass n (happens g p e m) in
-      of e (omega (arith, event_weighs (own_number n) (one_at n) (λ i f j. refl) r m o rises (λ c x slot a y. refl) (λ c f. counted (owns n c) (one_if_gone f.gone)) (λ c f. 0) p
-      (λ c y. gone_again (is_done (begins p c.job).control) (nat_eq c.number n)) (λ c x slot a q y z. gone_again (is_done (gives c.job x slot a).control) (nat_eq c.number n)) good g e h))
+      of e (omega (
+        arith,
+        event_weighs (own_number n) (one_at n) (λ i f j. refl) r m o rises (λ c x slot a y. refl) (λ c f. counted (owns n c) (one_if_gone f.gone)) (λ c f. 0) p
+            (λ c y. gone_again (is_done (begins p c.job).control) (nat_eq c.number n)) (λ c x slot a q y z. gone_again (is_done (gives c.job x slot a).control) (nat_eq c.number n)) good g e h,
+      ))
     where
       of : (e : Happening) → number_count n (happens g p e m) + lost_at (λ c f. counted (owns n c) (one_if_gone f.gone)) p e m ≡ number_count n m + gained_at (one_at n) (λ c f. 0) p e m
           → number_count n (happens g p e m) + counted (calls n e m) (one_if_gone (outcome g p e m).gone) ≡ number_count n m + made_as n e
@@ -356,8 +358,11 @@ module _ (r : Rules) (m : Machine) (o : IsOrderly r m) (rises : IsStrictlySorted
   references_change n e h =
       let a : mass (own_references n) (one_at n) m ≡ reference_count n m = reference_mass n m in
       let b : mass (own_references n) (one_at n) (happens g p e m) ≡ reference_count n (happens g p e m) = reference_mass n (happens g p e m) in
-      of e (omega (arith, event_weighs (own_references n) (one_at n) (λ i f j. refl) r m o rises (λ c x slot a y. ap (λ (s : _). cond (nat_eq c.number n) (references s) 0) (sym y)) (λ c f. counted (owns n c) 1) (λ c f. counted (owns n c) (length f.asks)) p
-      (λ c y. begun c y) (λ c x slot a q y z. given c x slot a q y z) good g e h))
+      of e (omega (
+        arith,
+        event_weighs (own_references n) (one_at n) (λ i f j. refl) r m o rises (λ c x slot a y. ap (λ (s : _). cond (nat_eq c.number n) (references s) 0) (sym y)) (λ c f. counted (owns n c) 1) (λ c f. counted (owns n c) (length f.asks)) p
+            (λ c y. begun c y) (λ c x slot a q y z. given c x slot a q y z) good g e h,
+      ))
     where
       begun : (c : Context) → c.stage ≡ Unbegun
           → left_weight (own_references n) c (left_by (begins p c.job) no_answers [] 0) + cond (nat_eq c.number n) 1 0 ≡ own_references n c + cond (nat_eq c.number n) (length (begins p c.job).asks) 0

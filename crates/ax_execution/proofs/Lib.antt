@@ -2,6 +2,7 @@ pub mod Cases
 pub mod Asking
 pub mod GivenUp
 pub mod References
+pub mod Merging
 pub mod Epochs
 pub mod Waits
 pub mod Measure

@@ -1,5 +1,5 @@
 -- References: a context is in flight exactly while it has some, and it is given up where a callback leaves none.
-use Rattle.std.proofs.Common.{◌≡◌, ℕ, ◌+◌, ◌≤◌, ◌<◌, nat_eq, List, [], ◌∷◌, ◌++◌, length, Bool, true, false, cond, ◌||◌, Option, Some, None, refl, sym, ap, ap₂, ◌∙◌, arith, subst}
+use Rattle.std.proofs.Common.{◌≡◌, ℕ, ◌+◌, ◌≤◌, ◌<◌, nat_eq, List, [], ◌∷◌, ◌++◌, Bool, true, false, cond, ◌||◌, Option, Some, None, refl, ap, ap₂, ◌∙◌, arith}
 use Rattle.std.proofs.lemmas.Bool.{cond-true, eq-eqb}
 use Rattle.std.specs.Str.{bytes_eq}
 use Rattle.std.specs.List.{list_any}
@@ -11,19 +11,19 @@ use Rattle.ax_text.specs.Controls.{Control, Done, Wait, Arms, slots}
 use Rattle.ax_text.specs.Sound.{Split}
 use Rattle.ax_text.proofs.Steps.{mem_append}
 use Rattle.ax_machine.specs.Entries.{Key}
-use Rattle.ax_execution.specs.Contexts.{Running, Stage, Begun, Context, Waiting, Part}
+use Rattle.ax_execution.specs.Contexts.{Context}
 use Rattle.ax_execution.specs.Sums.{total}
 use Rattle.ax_execution.specs.Counts.{references, one_at, owner_numbered, rows_numbered, part_numbered, number_count, owner_references, part_references, reference_count, one_if_gone, made_as, owns, calls, counted, AreDistinct}
-use Rattle.ax_execution.specs.Machine.{Closing, ByWatermark, ByBarrier, Machine, Happening, Admit, Close, Fire, Start, Serve, Deliver, Send, Rules, happens, outcome}
-use Rattle.ax_execution.specs.Allowed.{StageUnbegun, StageHas, OfOwner, Allowed}
+use Rattle.ax_execution.specs.Machine.{Machine, Happening, Admit, Close, Fire, Start, Serve, Deliver, Send, Rules, happens, outcome}
+use Rattle.ax_execution.specs.Allowed.{StageUnbegun, StageHas, Allowed}
 use Rattle.ax_execution.proofs.Handles.{Handles}
 use Rattle.ax_execution.proofs.Handlers.{Good}
-use Rattle.ax_execution.proofs.Upto.{StageGood, OwnerGood}
+use Rattle.ax_execution.proofs.Upto.{OwnerGood}
 use Rattle.ax_execution.proofs.Stuck.{IsAwake}
 use Rattle.ax_execution.proofs.KeySums.{in_total}
 use Rattle.ax_execution.proofs.Orderly.{IsOrderly, present}
 use Rattle.ax_execution.proofs.Outside.{owner_referred}
-use Rattle.ax_execution.proofs.GivenUp.{numbers_change, stage_good}
+use Rattle.ax_execution.proofs.GivenUp.{numbers_change}
 
 false_true : false ≡ true → ⊥
 false_true e = cc e

@@ -1,11 +1,10 @@
 -- What waits at each key behind an event.
-use Rattle.std.proofs.Common.{◌≡◌, ℕ, ℤ, pos, List, [], ◌∷◌, Bool, true, false, cond, Option, Some, None, refl, sym, ap, ◌∙◌, subst, map}
+use Rattle.std.proofs.Common.{◌≡◌, ℕ, ℤ, pos, List, [], ◌∷◌, Bool, true, false, cond, Some, None, refl, sym, ap, ◌∙◌, subst, map}
 use Rattle.std.proofs.lemmas.Bool.{cond-true, cond-false}
 use Rattle.std.specs.Str.{bytes_eq}
-use Rattle.ax_text.specs.declared.vocabulary.Answer.{Answer}
 use Rattle.ax_text.specs.Functions.{upd}
 use Rattle.ax_text.specs.Programs.{Program}
-use Rattle.ax_text.specs.Controls.{Rest, Control, Done, Wait, Arms, Ask' as Asked, slots, waiting, replaced, without, is_done, begin, give}
+use Rattle.ax_text.specs.Controls.{Rest, Control, Done, Wait, Arms, Ask' as Asked, slots, waiting, replaced, without, is_done}
 use Rattle.ax_text.specs.Jobs.{text_for}
 use Rattle.ax_text.proofs.Asked.{begin_asked, give_asked, slots_waiting}
 use Rattle.ax_machine.specs.Entries.{Key}
@@ -15,7 +14,7 @@ use Rattle.ax_machine.proofs.FiringLemmas.{key_is}
 use Rattle.ax_execution.specs.Groups.{row_facts}
 use Rattle.ax_execution.specs.Contexts.{Running, running_group, Begun, Context, Waiting, Row, Mark, Part, may_fire}
 use Rattle.ax_execution.specs.Asks.{stage_waits, owner_waits, waits_behind, SlotsRise, AreOutside, slots_beside}
-use Rattle.ax_execution.specs.Turns.{handed, closed_with, left_by, staged, called_back, no_answers, begins, gives, silent_talk, Effects, effects_of, start_effects, deliver_effects, admit, mark, fire, start, serve, deliver}
+use Rattle.ax_execution.specs.Turns.{handed, closed_with, left_by, staged, called_back, no_answers, begins, gives, silent_talk, Effects, start_effects, deliver_effects, admit, mark, fire, start, serve, deliver}
 use Rattle.ax_execution.specs.Machine.{ByWatermark, ByBarrier, Closed, Machine, Happening, Admit, Close, Fire, Start, Serve, Deliver, Send, Rules, part_at, send_first, happens, sends_first, outcome}
 use Rattle.ax_execution.specs.Allowed.{Allowed}
 use Rattle.ax_execution.proofs.Upto.{by_cases, part_of, OwnerGood}

@@ -9,6 +9,7 @@ pub mod KeyControls
 pub mod Machine
 pub mod Counts
 pub mod Asks
+pub mod Merges
 pub mod Allowed
 pub mod Tests
 pub mod Rows

@@ -1,8 +1,10 @@
 //! Laws of the machine, over all key groups, programs whose handlers are accepted, rules and runs from the start.
-ghost use Rattle.std.specs.Prelude.{◌≡◌, ℕ, suc, ◌+◌, ◌≤◌, ◌<◌, ℤ, List, [], ◌∷◌, ◌++◌, length, true, false, Some, None};
+ghost use Rattle.std.specs.Prelude.{◌≡◌, ℕ, suc, ◌+◌, ◌≤◌, ◌<◌, ℤ, int_lt, List, [], ◌∷◌, ◌++◌, length, true, false, Some, None};
 ghost use Rattle.ax_text.specs.Exprs.{Facts};
 ghost use Rattle.ax_text.specs.Programs.{Program};
-ghost use Rattle.ax_machine.specs.Entries.{Key, lines_of};
+ghost use Rattle.ax_machine.specs.Entries.{Key, Watermark, lines_of};
+ghost use Rattle.ax_machine.specs.Entries as entry;
+ghost use Rattle.ax_machine.specs.Events as event;
 ghost use Rattle.ax_machine.specs.Events.{Event, without_skipped};
 ghost use Rattle.ax_machine.specs.KeySync.{key_sync};
 ghost use Rattle.ax_machine.specs.Sync.{sync};
@@ -18,6 +20,7 @@ ghost use Rattle.ax_execution.specs.Rest.{settled, silent_part, owed, part_work}
 ghost use Rattle.ax_execution.specs.Machine.{Machine, Happening, Start, Serve, Deliver, Rules, happens, outcome, taken, machine_from, machine_of, in_flight, work, IsAtRest, IsWork};
 ghost use Rattle.ax_execution.specs.Allowed.{NoneIsIdle, IsFinished, Allowed, IsRun};
 ghost use Rattle.ax_execution.specs.Counts.{AreDistinct, one_if_gone, references, reference_count, epoch_count, number_count, made, made_as, calls, counted};
+ghost use Rattle.ax_execution.specs.Merges.{merge, firings_at};
 ghost use Rattle.ax_execution.specs.Asks.{owner_waits, waits_behind, SlotsRise, AreOutside, slots_beside};
 ghost use Rattle.ax_execution.specs.Tests.{allowed, runs};
 
@@ -39,6 +42,16 @@ pub fn skipped_watermarks_change_nothing()
     ensures none { (r : Rules) (g : ℕ) (p : Program) (from : Origin) (es : List Happening) → IsRun r g p es (machine_from from) → without_skipped from.wm (taken es) ≡ taken es }
     ensures same { (g : ℕ) (p : Program) (from : Origin) (es : List Happening) (events : List Event) → without_skipped from.wm events ≡ taken es
         → sync_from g p from (taken es) ≡ sync_from g p from events }
+{}
+
+/// What the plain thread writes at a watermark, wherever it began, is its keys' firings there, merged by time and then key, and then the
+/// watermark. Each key's firings are those of its own thread, which sees no other key.
+pub fn firings_are_merged_by_time_and_key()
+    ensures order { (g : ℕ) (p : Program) (from : Origin) (events : List Event) (w : ℤ) → int_lt (sync_from g p from events).wm w ≡ true
+        → (sync_from g p from (events ++ event.Mark w ∷ [])).entries
+        ≡ (sync_from g p from events).entries ++ (merge (sync_from g p from events).keys (λ k. firings_at p w ((sync_from g p from events).map k)) ++ entry.Mark (Watermark w) ∷ []) }
+    ensures alone { (g : ℕ) (p : Program) (from : Origin) (events : List Event) (w : ℤ) (k : Key) → IsOrigin p from → int_lt (sync_from g p from events).wm w ≡ true
+        → (key_sync_from p from k (events ++ event.Mark w ∷ [])).said.groups ≡ (key_sync_from p from k events).said.groups ++ firings_at p w ((sync_from g p from events).map k) }
 {}
 
 /// Each key goes as alone, whatever events come: it comes to what its own plain thread has and has said for the events that were

@@ -41,7 +41,7 @@ returns-clause-awake c r g p from es k it running accepted fits h owner stage = 
     awake = subst IsAwake owner ((always_orderly g p Good (handles p accepted) from fits r es h).sound.awake k)
 
 pub returns-clause-numbers : goal.returns-clause-numbers
-returns-clause-numbers c r g p from es n accepted fits h = always_apart g p Good (handles p accepted) from fits r es h n
+returns-clause-numbers c r g p from es n accepted fits h = always_apart g p (handles p accepted) from fits r es h n
 
 pub returns-clause-idle : goal.returns-clause-idle
 unfolding IsOrdered FrontFires

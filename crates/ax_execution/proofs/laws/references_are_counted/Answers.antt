@@ -1,4 +1,4 @@
-use Rattle.std.proofs.Common.{List, [], ◌∷◌, ◌++◌, Some, refl, subst}
+use Rattle.std.proofs.Common.{[], ◌∷◌, ◌++◌, refl, subst}
 use Rattle.ax_execution.specs.Machine.{happens, machine_of, taken}
 use Rattle.ax_execution.proofs.Alone.{Alone, goes_as_alone, event_alone}
 use Rattle.ax_execution.proofs.GivenUp.{asked_length, references_change, stage_good}
@@ -39,7 +39,7 @@ returns-clause-live c r g p from es n accepted fits run = (
 pub returns-clause-gone : goal.returns-clause-gone
 returns-clause-gone c r g p from es e n accepted fits run h calls gone = gone_unreferred r (machine_of g p from es) (always_orderly g p Good (handles p accepted) from fits r es run)
     (keys_rise g p Good (handles p accepted) from fits (machine_of g p from es) (taken es) (goes_as_alone g p Good (handles p accepted) from fits r es run))
-    (goes_as_alone g p Good (handles p accepted) from fits r es run).good g p (handles p accepted) n e h (always_apart g p Good (handles p accepted) from fits r es run n) calls gone
+    (goes_as_alone g p Good (handles p accepted) from fits r es run).good g p (handles p accepted) n e h (always_apart g p (handles p accepted) from fits r es run n) calls gone
 
 pub returns-clause-last : goal.returns-clause-last
 returns-clause-last c r g p from es e n accepted fits run h calls none =

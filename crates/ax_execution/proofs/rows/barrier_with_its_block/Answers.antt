@@ -28,3 +28,7 @@ returns-clause-parallel c = refl
 pub returns-clause-barrier : goal.returns-clause-barrier
 unfolding digits apply_op most_firings begin give least_free
 returns-clause-barrier c = refl
+
+pub returns-clause-watermark : goal.returns-clause-watermark
+unfolding digits apply_op most_firings begin give least_free
+returns-clause-watermark c = refl

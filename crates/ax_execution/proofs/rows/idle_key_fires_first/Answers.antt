@@ -24,3 +24,7 @@ returns-clause-send c = refl
 pub returns-clause-full : goal.returns-clause-full
 unfolding digits apply_op most_firings begin give least_free
 returns-clause-full c = refl
+
+pub returns-clause-other : goal.returns-clause-other
+unfolding digits apply_op most_firings begin give least_free
+returns-clause-other c = refl

@@ -36,3 +36,19 @@ returns-clause-parallel c = refl
 pub returns-clause-skipped : goal.returns-clause-skipped
 unfolding digits apply_op most_firings begin give least_free
 returns-clause-skipped c = refl
+
+pub returns-clause-greater : goal.returns-clause-greater
+unfolding digits apply_op most_firings begin give least_free
+returns-clause-greater c = refl
+
+pub returns-clause-serial_close : goal.returns-clause-serial_close
+unfolding digits apply_op most_firings begin give least_free
+returns-clause-serial_close c = refl
+
+pub returns-clause-serial_barrier : goal.returns-clause-serial_barrier
+unfolding digits apply_op most_firings begin give least_free
+returns-clause-serial_barrier c = refl
+
+pub returns-clause-unserved : goal.returns-clause-unserved
+unfolding digits apply_op most_firings begin give least_free
+returns-clause-unserved c = refl

@@ -40,3 +40,11 @@ returns-clause-number c = refl
 pub returns-clause-free : goal.returns-clause-free
 unfolding digits apply_op most_firings begin give least_free
 returns-clause-free c = refl
+
+pub returns-clause-slot : goal.returns-clause-slot
+unfolding digits apply_op most_firings begin give least_free
+returns-clause-slot c = refl
+
+pub returns-clause-no_owner : goal.returns-clause-no_owner
+unfolding digits apply_op most_firings begin give least_free
+returns-clause-no_owner c = refl

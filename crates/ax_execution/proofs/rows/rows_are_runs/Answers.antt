@@ -27,3 +27,13 @@ returns-clause-serial c = is_run 128 counting Good (handles counting counting_ac
 pub returns-clause-parallel : goal.returns-clause-parallel
 unfolding apply_op most_firings begin give least_free
 returns-clause-parallel c = is_run 128 alarm Good (handles alarm alarm_accepted) (first alarm) (first_fits alarm) (in_parallel 1) one_place refl
+
+pub returns-clause-counting : goal.returns-clause-counting
+returns-clause-counting c = counting_accepted
+
+pub returns-clause-alarm : goal.returns-clause-alarm
+returns-clause-alarm c = alarm_accepted
+
+pub returns-clause-reminder : goal.returns-clause-reminder
+unfolding is_accepted
+returns-clause-reminder c = record { row = refl; timer = refl }
