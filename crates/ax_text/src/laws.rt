@@ -4,11 +4,12 @@ ghost use Rattle.ax_text.specs.declared.vocabulary.Answer.{Answer as AnyAnswer};
 ghost use Rattle.ax_text.specs.declared.vocabulary.Request.{Request as AnyRequest};
 ghost use Rattle.ax_text.specs.declared.vocabulary.Kind.{Kind};
 ghost use Rattle.ax_text.specs.Exprs.{Facts};
-ghost use Rattle.ax_text.specs.Cells.{Cells};
+ghost use Rattle.ax_text.specs.Cells.{Cells, cells_after};
 ghost use Rattle.ax_text.specs.Texts.{Text};
-ghost use Rattle.ax_text.specs.Programs.{width};
-ghost use Rattle.ax_text.specs.Run.{Talk, World};
-ghost use Rattle.ax_text.specs.Controls.{Ask', Control, Done, least_free, Cursor, Event, Going, slots, waiting, is_done, request_at, give};
+ghost use Rattle.ax_text.specs.Programs.{width, untouched};
+ghost use Rattle.ax_text.specs.Run.{Talk, World, run};
+ghost use Rattle.ax_text.specs.Rising.{MapsRise};
+ghost use Rattle.ax_text.specs.Controls.{Ask', Control, Done, least_free, Cursor, Event, Going, slots, waiting, is_done, request_at, give, step};
 ghost use Rattle.ax_text.specs.Prints.{has};
 ghost use Rattle.ax_text.specs.Suits.{Suits, AsksSuit, fits_in};
 ghost use Rattle.ax_text.specs.Sound.{Split, IsWakeful, IsWaiting, BeginsSound, GivesSound};
@@ -116,6 +117,15 @@ pub fn arms_commute()
 #[tactic(auto, using(crate::proofs::Moving::give_moves))]
 pub fn answers_move_on()
     ensures { (f : Facts) (c : Control) (s : ℕ) (a : AnyAnswer) (t : Talk) → has s (slots c) ≡ true → (give f c s a t).control ≢ c }
+{}
+
+/// The entries of a map strictly rise by their keys: before it is first touched, and behind every request, every run and every step.
+#[tactic(auto, using(crate::proofs::RisingKept::untouched_rise, crate::proofs::RisingKept::requests_keep, crate::proofs::RisingKept::runs_keep, crate::proofs::RisingKept::steps_keep))]
+pub fn maps_stay_rising()
+    ensures untouched { (kinds : List Kind) → MapsRise (untouched kinds) }
+    ensures request { (r : AnyRequest) (cells : Cells) → MapsRise cells → MapsRise (cells_after r cells) }
+    ensures run { (f : Facts) (text : Text) (w : World) → MapsRise w.cells → MapsRise (run f text w).cells }
+    ensures step { (f : Facts) (e : Event) (g : Going) → MapsRise g.world.cells → MapsRise (step f e g).world.cells }
 {}
 
 /// Lines of a handler that pass the tests of arms one after another make a text whose arms are silent and apart.
