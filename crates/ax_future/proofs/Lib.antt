@@ -4,3 +4,5 @@ pub mod WayLemmas
 pub mod MoveLemmas
 pub mod BeginLemmas
 pub mod AnswerLemmas
+pub mod MachineLemmas
+pub mod LifeLemmas

@@ -3,3 +3,5 @@ pub mod Talks
 pub mod Nodes
 pub mod Ways
 pub mod Moves
+pub mod Machines
+pub mod Lives

@@ -15,13 +15,14 @@ mod begin;
 mod callback;
 mod fresh;
 mod going;
-// mod machine;
+pub mod laws;
+mod machine;
 mod moves;
 mod node;
 mod nodes;
 
 pub use ax_text::{Handler, TimerOp};
 pub use callback::{Ask, Asks, Facts, Outs, TimerOps, Turn};
-// pub use machine::Machine;
+pub use machine::Machine;
 pub use node::{Assign, Cursor, Frame, Next, Node};
 pub use nodes::{combine, compose, then};
