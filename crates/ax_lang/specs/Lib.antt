@@ -1,7 +1,4 @@
-pub mod Tables
-pub mod Rows
+pub mod Forms
 pub mod Steps
+pub mod Links
 pub mod Shown
-pub mod Sound
-pub mod Programs
-pub mod Laws

@@ -1,0 +1,7 @@
+pub mod Sizes
+pub mod Talks
+pub mod Nodes
+pub mod Ways
+pub mod Moves
+pub mod Machines
+pub mod Lives

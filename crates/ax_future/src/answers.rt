@@ -1,0 +1,204 @@
+//! How a handler takes an answer.
+ghost use Rattle.std.specs.Prelude.{◌≡◌, ◌≤◌, ◌+◌, ◌++◌, [], length, map, max, IfOk, OnOk};
+ghost use Rattle.ax_text.specs.Run.{with_names, take_in, turns_of, number_or};
+ghost use Rattle.ax_text.specs.Prints.{has};
+ghost use Rattle.ax_text.specs.Controls.{slots, also, begin, joined, resume, give_in, without};
+ghost use Rattle.ax_lang.specs.declared.program.Program.{Program as AnyProgram};
+ghost use Rattle.ax_future.specs.Sizes.{cursor_width, next_width, control_width};
+ghost use Rattle.ax_future.specs.Nodes.{cursor_in, next_in, after_in, control_in};
+ghost use Rattle.ax_future.specs.Talks.{facts_in, talk_of, asks_in, turn_pair};
+ghost use Rattle.ax_future.specs.Moves.{turn_of};
+
+use crate::begin::{are_done, begin};
+use crate::callback::Facts;
+use crate::going::{Going, assign};
+use crate::moves::put;
+use crate::node::{Assign, Cursor, Frame, Next, Node};
+use crate::nodes::arms;
+use ax_lang::Program;
+use ax_base::{NoMemory, Pair, Pairs};
+use ax_text::Answer;
+use std::alloc::Global;
+
+// The number of an answer, or the default.
+fn number_or(answer: &Answer, missing: i64) -> i64
+    ensures { result ≡ number_or answer.now missing }
+{
+    match answer {
+        Answer::Found { number } => *number,
+        Answer::Flag { yes } => i64::from(*yes),
+        _ => missing,
+    }
+}
+
+// A local name takes an answer.
+fn take_in(going: &mut Going, to: Assign, answer: &Answer) -> Result<(), NoMemory>
+    ensures talk { OnOk result (talk_of going.new ≡ with_names (take_in (after_in to) answer.now (talk_of going.old).names) (talk_of going.old)) }
+    ensures asks { going.new.asks ≡ going.old.asks }
+{
+    match to {
+        Assign::Name { name, missing } => {
+            let number = number_or(answer, missing);
+            assign(&mut going.names, name, number)
+        }
+        Assign::Ignore => Ok(()),
+    }
+}
+
+// The turns that a list gives an `each`.
+fn item_turns(alloc: Global, items: &[i64]) -> Result<Pairs, NoMemory>
+    ensures { IfOk result (λ turns. turns ≡ map turn_pair items.now) }
+{
+    let mut turns = Pairs::new(alloc);
+    for item in items {
+        turns.push(Pair {
+            at: *item,
+            number: 0,
+        })?;
+    }
+    Ok(turns)
+}
+
+// The turns that an answer gives an `each`.
+fn turns_of(alloc: Global, answer: Answer) -> Result<Pairs, NoMemory>
+    ensures { IfOk result (λ turns. turns ≡ turns_of answer) }
+{
+    match answer {
+        Answer::Items { items } => item_turns(alloc, items.as_slice()),
+        Answer::Pairs { pairs } => Ok(pairs),
+        _ => Ok(Pairs::new(alloc)),
+    }
+}
+
+// A wait takes its answer, and the handler goes on.
+fn resume(
+    alloc: Global,
+    program: &Program,
+    facts: &Facts,
+    used: &[u8],
+    next: Next,
+    answer: Answer,
+    cursor: Cursor,
+    going: &mut Going,
+) -> Result<Node, NoMemory>
+    requires { length used.now + max (next_width (next_in program.now next)) (cursor_width (cursor_in program.now cursor.items)) ≤ 256 }
+    ensures { IfOk result (λ node. also (asks_in going.old.asks) (resume (facts_in facts.now) (next_in program.now next) answer (cursor_in program.now cursor.items) used.now (talk_of going.old)) ≡ turn_of program.now going.new node) }
+{
+    match next {
+        Next::Take { assign } => {
+            take_in(going, assign, &answer)?;
+            let node = begin(alloc, program, facts, used, cursor, going)?;
+            Ok(node)
+        }
+        Next::Begin { turn, body } => {
+            let turns = turns_of(alloc, answer)?;
+            let mut cursor = cursor;
+            put(
+                &mut cursor,
+                Frame::Turns {
+                    turn,
+                    turns,
+                    at: 0,
+                    body,
+                },
+            )?;
+            let node = begin(alloc, program, facts, used, cursor, going)?;
+            Ok(node)
+        }
+    }
+}
+
+// Two arms, and what goes on behind them.
+fn join(
+    alloc: Global,
+    program: &Program,
+    facts: &Facts,
+    used: &[u8],
+    one: Node,
+    two: Node,
+    cursor: Cursor,
+    going: &mut Going,
+) -> Result<Node, NoMemory>
+    requires { length used.now + cursor_width (cursor_in program.now cursor.items) ≤ 256 }
+    ensures { IfOk result (λ node. also (asks_in going.old.asks) (joined (control_in program.now one) (control_in program.now two) [] (cursor_in program.now cursor.items) (begin (facts_in facts.now) (cursor_in program.now cursor.items) used.now) (talk_of going.old)) ≡ turn_of program.now going.new node) }
+{
+    if are_done(&one, &two) {
+        let node = begin(alloc, program, facts, used, cursor, going)?;
+        Ok(node)
+    } else {
+        let node = arms(alloc, one, two, cursor)?;
+        Ok(node)
+    }
+}
+
+/// Whether a node waits at a slot.
+pub fn waits_at(node: &Node, slot: u8) -> bool
+    ensures { (p : AnyProgram) → result ≡ has slot (slots (control_in p node.now)) }
+{
+    match node {
+        Node::Done => false,
+        Node::Wait { slot: other, .. } => slot == *other,
+        Node::Arms { one, two, .. } => waits_at(one, slot) || waits_at(two, slot),
+    }
+}
+
+/// The slots where a node waits, but one.
+#[tactic(auto, using(crate::proofs::AnswerLemmas::without_append))]
+pub fn add_others(node: &Node, slot: u8, others: &mut Vec<u8>) -> Result<(), NoMemory>
+    ensures { OnOk result ((p : AnyProgram) → others.new.items ≡ others.old.items ++ without slot (slots (control_in p node.now))) }
+{
+    match node {
+        Node::Done => Ok(()),
+        Node::Wait { slot: other, .. } => {
+            if slot == *other {
+                Ok(())
+            } else {
+                match others.push(*other) {
+                    Ok(()) => Ok(()),
+                    Err(_) => Err(NoMemory),
+                }
+            }
+        }
+        Node::Arms { one, two, .. } => {
+            add_others(one, slot, others)?;
+            add_others(two, slot, others)?;
+            Ok(())
+        }
+    }
+}
+
+/// The wait of a slot takes an answer, and the handler goes on.
+pub fn give_in(
+    alloc: Global,
+    program: &Program,
+    facts: &Facts,
+    used: &[u8],
+    node: Node,
+    slot: u8,
+    answer: Answer,
+    going: &mut Going,
+) -> Result<Node, NoMemory>
+    requires { length used.now + control_width (control_in program.now node) ≤ 256 }
+    ensures { IfOk result (λ after. also (asks_in going.old.asks) (give_in (facts_in facts.now) (control_in program.now node) slot answer used.now (talk_of going.old)) ≡ turn_of program.now going.new after) }
+{
+    match node {
+        Node::Done => Ok(Node::Done),
+        Node::Wait { next, cursor, .. } => {
+            let after = resume(alloc, program, facts, used, next, answer, cursor, going)?;
+            Ok(after)
+        }
+        Node::Arms { one, two, cursor } => {
+            let one = Box::into_inner(one);
+            let two = Box::into_inner(two);
+            if waits_at(&one, slot) {
+                let one = give_in(alloc, program, facts, used, one, slot, answer, going)?;
+                let after = join(alloc, program, facts, used, one, two, cursor, going)?;
+                Ok(after)
+            } else {
+                let two = give_in(alloc, program, facts, used, two, slot, answer, going)?;
+                let after = join(alloc, program, facts, used, one, two, cursor, going)?;
+                Ok(after)
+            }
+        }
+    }
+}

@@ -1,0 +1,252 @@
+//! One step of a handler.
+ghost use Rattle.std.specs.Prelude.{◌≡◌, ◌≤◌, ◌<◌, drop, length, slice_get, Some, ◌++◌, ◌∷◌, [], max, suc, IfOk, OnOk};
+ghost use Rattle.ax_text.specs.Exprs.{Facts as AnyFacts};
+ghost use Rattle.ax_text.specs.Controls.{Rest, Turns};
+ghost use Rattle.ax_text.specs.Run.{loop_request};
+ghost use Rattle.ax_lang.specs.declared.program.Program.{Program as AnyProgram};
+ghost use Rattle.ax_lang.specs.Forms.{form_of, text_with, top_of, shown_loop, Branches};
+ghost use Rattle.ax_lang.specs.Shown.{text_from};
+ghost use Rattle.ax_expr.specs.Shown.{shown_expr};
+ghost use Rattle.ax_future.specs.Nodes.{frame_in, cursor_in, place_of, highest};
+ghost use Rattle.ax_future.specs.Talks.{facts_in, talk_of};
+ghost use Rattle.ax_future.specs.Moves.{IsPlain, Moves, above};
+
+use crate::callback::Facts;
+use crate::going::Going;
+use crate::node::{Cursor, Frame, Next};
+use ax_lang::{Loop, Program, Step, Stmt};
+use ax_base::{NoMemory, Pair, Pairs};
+use ax_expr::Expr;
+use ax_text::Request;
+use std::alloc::Global;
+
+/// What a step comes to.
+#[derive(Drop)]
+pub enum Move {
+    /// Nothing is left to be run.
+    End,
+    /// It goes on.
+    Go,
+    /// It asks, and waits.
+    Wait { request: Request, next: Next },
+    /// Two arms begin.
+    Split { one: usize, two: usize },
+}
+
+/// Puts a frame in front of what is still to be run.
+#[tactic(auto, using(crate::proofs::CursorLemmas::cursor_more, crate::proofs::CursorLemmas::highest_more))]
+pub fn put(cursor: &mut Cursor, frame: Frame) -> Result<(), NoMemory>
+    ensures cursor { OnOk result ((p : AnyProgram) → cursor_in p cursor.new.items ≡ frame_in p frame ∷ cursor_in p cursor.old.items) }
+    ensures highest { OnOk result (highest cursor.new.items ≡ max (highest cursor.old.items) (place_of frame)) }
+{
+    match cursor.push(frame) {
+        Ok(()) => Ok(()),
+        Err(_) => Err(NoMemory),
+    }
+}
+
+// What an `each` asks.
+fn loop_request(turn: Loop) -> Request
+    ensures { result ≡ loop_request (shown_loop turn) }
+{
+    match turn {
+        Loop::Items { state, .. } => Request::ListGet { state },
+        Loop::Entries { state, .. } => Request::MapEntries { state },
+    }
+}
+
+// A statement that asks at most once.
+fn take_plain(
+    alloc: Global,
+    facts: &Facts,
+    step: &Step,
+    cursor: &mut Cursor,
+    going: &mut Going,
+) -> Result<Move, NoMemory>
+    requires { IsPlain (form_of step.now.stmt) }
+    ensures moves { IfOk result (λ m. (p : AnyProgram) → Moves (facts_in facts.now) p (Rest (text_with (text_from p) (form_of step.now.stmt) step.now.next) ∷ cursor_in p cursor.old.items) (cursor_in p cursor.new.items) (talk_of going.old) (talk_of going.new) m) }
+    ensures places { IfOk result (λ m. highest cursor.new.items ≤ max (highest cursor.old.items) (top_of step.now)) }
+    ensures above { IfOk result (λ m. above m ≤ suc (top_of step.now)) }
+    ensures asks { going.new.asks ≡ going.old.asks }
+{
+    put(cursor, Frame::Rest { place: step.next })?;
+    match going.question(alloc, facts, &step.stmt)? {
+        Some(question) => Ok(Move::Wait {
+            request: question.request,
+            next: Next::Take {
+                assign: question.assign,
+            },
+        }),
+        None => {
+            going.act(alloc, facts, &step.stmt)?;
+            Ok(Move::Go)
+        }
+    }
+}
+
+// An `if`: one of its parts comes first, and then what stands behind it.
+fn take_branch(
+    facts: &Facts,
+    going: &Going,
+    test: &Expr,
+    parts: &Parts,
+    cursor: &mut Cursor,
+) -> Result<Move, NoMemory>
+    ensures moves { IfOk result (λ m. (p : AnyProgram) → Moves (facts_in facts.now) p (Rest (text_with (text_from p) (Branches (shown_expr test.now) parts.now.one parts.now.other) parts.now.next) ∷ cursor_in p cursor.old.items) (cursor_in p cursor.new.items) (talk_of going.now) (talk_of going.now) m) }
+    ensures places { OnOk result (highest cursor.new.items ≤ max (highest cursor.old.items) (max parts.now.next (max parts.now.one parts.now.other))) }
+    ensures above { IfOk result (λ m. above m ≡ 0) }
+{
+    put(cursor, Frame::Rest { place: parts.next })?;
+    if going.is_zero(facts, test) {
+        put(cursor, Frame::Rest { place: parts.other })?;
+        Ok(Move::Go)
+    } else {
+        put(cursor, Frame::Rest { place: parts.one })?;
+        Ok(Move::Go)
+    }
+}
+
+// The places of an `if`.
+#[derive(Clone, Copy)]
+struct Parts {
+    one: usize,
+    other: usize,
+    next: usize,
+}
+
+// One statement.
+fn take_step(
+    alloc: Global,
+    facts: &Facts,
+    step: &Step,
+    cursor: &mut Cursor,
+    going: &mut Going,
+) -> Result<Move, NoMemory>
+    ensures moves { IfOk result (λ m. (p : AnyProgram) → Moves (facts_in facts.now) p (Rest (text_with (text_from p) (form_of step.now.stmt) step.now.next) ∷ cursor_in p cursor.old.items) (cursor_in p cursor.new.items) (talk_of going.old) (talk_of going.new) m) }
+    ensures places { OnOk result (highest cursor.new.items ≤ max (highest cursor.old.items) (top_of step.now)) }
+    ensures above { IfOk result (λ m. above m ≤ suc (top_of step.now)) }
+    ensures asks { going.new.asks ≡ going.old.asks }
+{
+    match &step.stmt {
+        Stmt::If { test, one, other } => {
+            let parts = Parts {
+                one: *one,
+                other: *other,
+                next: step.next,
+            };
+            take_branch(facts, going, test, &parts, cursor)
+        }
+        Stmt::Each { turn, body } => {
+            put(cursor, Frame::Rest { place: step.next })?;
+            Ok(Move::Wait {
+                request: loop_request(*turn),
+                next: Next::Begin {
+                    turn: *turn,
+                    body: *body,
+                },
+            })
+        }
+        Stmt::Both { one, two } => {
+            put(cursor, Frame::Rest { place: step.next })?;
+            Ok(Move::Split {
+                one: *one,
+                two: *two,
+            })
+        }
+        _ => take_plain(alloc, facts, step, cursor, going),
+    }
+}
+
+fn pair_at(turns: &Pairs, at: usize) -> Pair
+    requires { at < length turns.now }
+    ensures { slice_get turns.now at ≡ Some result }
+{
+    turns.as_slice()[at]
+}
+
+// One turn of an `each`, or its end.
+fn take_turn(
+    turn: Loop,
+    turns: Pairs,
+    at: usize,
+    body: usize,
+    cursor: &mut Cursor,
+    going: &mut Going,
+) -> Result<Move, NoMemory>
+    ensures moves { IfOk result (λ m. (p : AnyProgram) (f : AnyFacts) → Moves f p (Turns (shown_loop turn) (drop at turns) (text_from p body) ∷ cursor_in p cursor.old.items) (cursor_in p cursor.new.items) (talk_of going.old) (talk_of going.new) m) }
+    ensures places { OnOk result (highest cursor.new.items ≤ max (highest cursor.old.items) body) }
+    ensures above { IfOk result (λ m. above m ≡ 0) }
+    ensures asks { going.new.asks ≡ going.old.asks }
+{
+    if at < turns.len() {
+        let pair = pair_at(&turns, at);
+        going.bind(turn, &pair)?;
+        put(
+            cursor,
+            Frame::Turns {
+                turn,
+                turns,
+                at: at + 1,
+                body,
+            },
+        )?;
+        put(cursor, Frame::Rest { place: body })?;
+    }
+    Ok(Move::Go)
+}
+
+// What a frame says.
+fn take_frame(
+    alloc: Global,
+    program: &Program,
+    facts: &Facts,
+    frame: Frame,
+    cursor: &mut Cursor,
+    going: &mut Going,
+) -> Result<Move, NoMemory>
+    ensures moves { IfOk result (λ m. Moves (facts_in facts.now) program.now (frame_in program.now frame ∷ cursor_in program.now cursor.old.items) (cursor_in program.now cursor.new.items) (talk_of going.old) (talk_of going.new) m) }
+    ensures places { OnOk result (highest cursor.new.items ≤ max (highest cursor.old.items) (place_of frame)) }
+    ensures above { IfOk result (λ m. above m ≤ place_of frame) }
+    ensures asks { going.new.asks ≡ going.old.asks }
+{
+    match frame {
+        Frame::Turns {
+            turn,
+            turns,
+            at,
+            body,
+        } => {
+            let taken = take_turn(turn, turns, at, body, cursor, going)?;
+            Ok(taken)
+        }
+        Frame::Rest { place } => match program.step(place) {
+            None => Ok(Move::Go),
+            Some(step) => {
+                let taken = take_step(alloc, facts, step, cursor, going)?;
+                Ok(taken)
+            }
+        },
+    }
+}
+
+/// One step of what is still to be run.
+pub fn advance(
+    alloc: Global,
+    program: &Program,
+    facts: &Facts,
+    cursor: &mut Cursor,
+    going: &mut Going,
+) -> Result<Move, NoMemory>
+    ensures moves { IfOk result (λ m. Moves (facts_in facts.now) program.now (cursor_in program.now cursor.old.items) (cursor_in program.now cursor.new.items) (talk_of going.old) (talk_of going.new) m) }
+    ensures places { OnOk result (highest cursor.new.items ≤ highest cursor.old.items) }
+    ensures above { IfOk result (λ m. above m ≤ highest cursor.old.items) }
+    ensures asks { going.new.asks ≡ going.old.asks }
+{
+    match cursor.pop() {
+        None => Ok(Move::End),
+        Some(frame) => {
+            let taken = take_frame(alloc, program, facts, frame, cursor, going)?;
+            Ok(taken)
+        }
+    }
+}
