@@ -11,7 +11,7 @@ use Rattle.ax_state.specs.Decls.{kinds, shown_states}
 use Rattle.ax_lang.specs.declared.tables.Tables.{Tables}
 use Rattle.ax_lang.specs.declared.reader.SectionEnd.{SectionEnd}
 use Rattle.ax_lang.specs.Tables.{start, fields_or, most_locals}
-use Rattle.ax_lang.specs.Rows.{HandlerRows, text_of, text_if}
+use Rattle.ax_lang.specs.Statements.{HandlerRows, text_of, text_if}
 use Rattle.ax_lang.specs.Sound.{UpToSixteen, Sound}
 use Rattle.ax_lang.specs.Programs.{Reading, Faulty, Accepted, shape_in, tables_of, rows_of, after_in, fault_in, or_fault, is_whole, program_in, ended, read_from, program_of}
 use Rattle.ax_lang.proofs.LinkLemmas.{text_of_fits}

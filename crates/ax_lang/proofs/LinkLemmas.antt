@@ -9,7 +9,7 @@ use Rattle.ax_text.specs.Texts.{Text, Stop}
 use Rattle.ax_text.specs.Valid.{quiet_fits, asking_fits, text_fits, timer_fits}
 use Rattle.ax_lang.specs.declared.step.Stmt.{Stmt}
 use Rattle.ax_lang.specs.declared.step.Step.{Step}
-use Rattle.ax_lang.specs.Rows.{Statement, Acts, Asks, with_row, text_of, text_if, statement_fits}
+use Rattle.ax_lang.specs.Statements.{Statement, Acts, Asks, with_row, text_of, text_if, statement_fits}
 use Rattle.ax_lang.specs.Steps.{shown_statement, text_in, texts_from, text_at, text_some, GoesOn, whole_fits, steps_fit}
 use Rattle.ax_lang.proofs.StepLemmas.{text_more, text_last, texts_length}
 use Rattle.ax_lang.proofs.ExprLemmas.{statement_more}

@@ -9,7 +9,7 @@ use Rattle.ax_text.specs.Valid.{IsValid, text_fits, timer_fits}
 use Rattle.ax_state.specs.Decls.{kinds, shown_states}
 use Rattle.ax_lang.specs.declared.step.Step.{Step}
 use Rattle.ax_lang.specs.declared.program.Program.{Program}
-use Rattle.ax_lang.specs.Rows.{with_row}
+use Rattle.ax_lang.specs.Statements.{with_row}
 use Rattle.std.specs.List.{list_all}
 use Rattle.ax_lang.specs.Steps.{shown_statement, text_in, texts_from, text_at, text_some, whole_fits}
 use Rattle.ax_lang.specs.Shown.{shown_program, locals_of, text_from, StandsAt}

@@ -8,7 +8,7 @@ use Rattle.ax_lang.specs.declared.reader.SectionEnd.{SectionEnd}
 use Rattle.ax_lang.specs.declared.reader.ProgFault.{ProgFault}
 use Rattle.ax_lang.specs.declared.reader.ProgFault.TheVariants as fault
 use Rattle.ax_lang.specs.Tables.{start}
-use Rattle.ax_lang.specs.Rows.{HandlerRows, no_rows, joined}
+use Rattle.ax_lang.specs.Statements.{HandlerRows, no_rows, joined}
 use Rattle.ax_lang.proofs.RowLemmas.{joined_none, joined_assoc}
 use Rattle.ax_lang.specs.Programs.{Reading, Faulty, shape_in, tables_from, tables_of, rows_from, rows_of, after_in, fault_in, rows_in, or_fault, read_from, program_of, ended, TakesLine, ReadsProgram}
 

@@ -18,7 +18,8 @@ use Rattle.ax_syntax.specs.Shapes.{Shape, is_expr, is_exprs}
 use Rattle.ax_syntax.specs.Shapes as shape
 use Rattle.ax_lang.specs.declared.tables.Tables.{Tables}
 use Rattle.ax_lang.specs.Tables.{mem, state_names, is_state, is_new_local, is_statement, reads_of, is_built, is_built_word, is_comma, is_unknown, fields_or, may_stand, is_too_many, has_long_expr, is_twice, has_unknown, has_wrong_kind, fault_by, with_word, most_locals, begun, after, start}
-use Rattle.ax_lang.specs.Rows.{Statement, HandlerRows, no_rows, rows_at, joined, rows_by, place_in, tree_in, row_of, statement_fits}
+use Rattle.ax_lang.specs.Statements.{Statement, HandlerRows, no_rows, rows_at, joined, rows_by, row_of, statement_fits}
+use Rattle.ax_lang.specs.Rows.{place_in, tree_in}
 use Rattle.ax_lang.specs.Programs.{fault_in, after_in, rows_in}
 use Rattle.ax_lang.specs.Steps.{shown_statement, whole_fits}
 use Rattle.ax_lang.specs.declared.step.Stmt.{Stmt}

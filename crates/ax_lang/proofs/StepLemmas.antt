@@ -15,7 +15,7 @@ use Rattle.ax_lang.specs.declared.step.Step.{Step}
 use Rattle.ax_lang.specs.declared.step.Stmt.{Stmt}
 use Rattle.ax_lang.specs.declared.step.Stmt.TheVariants as code
 use Rattle.ax_lang.specs.Tables.{state_names}
-use Rattle.ax_lang.specs.Rows.{Statement, Acts, Asks, with_row}
+use Rattle.ax_lang.specs.Statements.{Statement, Acts, Asks, with_row}
 use Rattle.ax_lang.specs.Steps.{shown_statement, text_in, texts_from, text_at, text_some, stmt_fits, whole_fits, steps_fit}
 
 pub program_kinds : (ds : List Decl) → kinds ds ≡ kinds_of (shown_states ds)

@@ -1,5 +1,8 @@
 pub mod Tables
 pub mod Rows
+pub mod Clean
+pub mod Blocks
+pub mod Statements
 pub mod Steps
 pub mod Shown
 pub mod Sound

@@ -11,7 +11,7 @@ use Rattle.ax_lang.specs.declared.reader.SectionEnd.{SectionEnd}
 use Rattle.ax_lang.specs.declared.reader.ProgFault.{ProgFault}
 use Rattle.ax_lang.specs.declared.reader.ProgFault.TheVariants as fault
 use Rattle.ax_lang.specs.Tables.{fault_by, after, start, fields_or}
-use Rattle.ax_lang.specs.Rows.{HandlerRows, no_rows, joined, rows_by, text_of, text_if}
+use Rattle.ax_lang.specs.Statements.{HandlerRows, no_rows, joined, rows_by, text_of, text_if}
 use Rattle.ax_lang.specs.Shown.{shown_program}
 
 abbrev pub shape_in : Line → Option Shape

@@ -6,7 +6,7 @@ use Rattle.ax_text.specs.Programs.{Program, kinds_of}
 use Rattle.ax_state.specs.Decls.{shown_states}
 use Rattle.ax_lang.specs.declared.step.Step.{Step}
 use Rattle.ax_lang.specs.declared.program.Program.{Program as CodeProgram}
-use Rattle.ax_lang.specs.Rows.{with_row}
+use Rattle.ax_lang.specs.Statements.{with_row}
 use Rattle.ax_lang.specs.Steps.{shown_statement, text_at, text_some, stmt_fits, whole_fits}
 
 -- the text from a place of a program on

@@ -9,7 +9,7 @@ use Rattle.ax_state.specs.Decls.{kinds}
 use Rattle.ax_syntax.specs.Shapes.{Shape, Input, State, Get, Put, Emit, Timer, Untimer, is_expr, is_exprs}
 use Rattle.ax_lang.specs.declared.tables.Tables.{Tables}
 use Rattle.ax_lang.specs.Tables.{state_names, most_locals, fields_or}
-use Rattle.ax_lang.specs.Rows.{HandlerRows, no_rows, statement_fits}
+use Rattle.ax_lang.specs.Statements.{HandlerRows, no_rows, statement_fits}
 
 abbrev pub UpToSixteen : Option ℕ → Type 0
 UpToSixteen None = Unit {0}

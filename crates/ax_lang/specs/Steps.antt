@@ -11,7 +11,7 @@ use Rattle.ax_lang.specs.declared.step.Stmt.{Stmt}
 use Rattle.ax_lang.specs.declared.step.Stmt.TheVariants as code
 use Rattle.ax_lang.specs.declared.step.Step.{Step}
 use Rattle.ax_lang.specs.declared.step.Handlers.{Handlers}
-use Rattle.ax_lang.specs.Rows.{Statement, Acts, Asks, HandlerRows, with_row, statement_fits}
+use Rattle.ax_lang.specs.Statements.{Statement, Acts, Asks, HandlerRows, with_row, statement_fits}
 
 abbrev pub shown_statement : Stmt → Statement
 shown_statement (code.Get name state missing) = Asks (text.Get name state (shown_expr missing))

@@ -4,7 +4,7 @@ ghost use Rattle.std.specs.List.{list_all};
 ghost use Rattle.std.specs.Option.{option_copied};
 ghost use Rattle.ax_text.specs.Programs.{text_or_stop, program_width};
 ghost use Rattle.ax_state.specs.Decls.{kinds, shown_states};
-ghost use Rattle.ax_lang.specs.Rows.{text_of, text_if};
+ghost use Rattle.ax_lang.specs.Statements.{text_of, text_if};
 ghost use Rattle.ax_lang.specs.Steps.{shown_statement, text_at, text_some, GoesOn, whole_fits, steps_fit, FitsWith};
 ghost use Rattle.ax_lang.specs.Tables.{state_names};
 ghost use Rattle.ax_text.specs.Names.{is_name, are_distinct};

@@ -3,7 +3,7 @@ ghost use Rattle.std.specs.Prelude.{◌≡◌, ◌++◌, map, true, OnOk, None, 
 ghost use Rattle.ax_base.specs.Words.{words_of};
 ghost use Rattle.ax_syntax.specs.Shapes.{shown_shape, shape_of};
 ghost use Rattle.ax_lang.specs.Tables.{after, fault_by};
-ghost use Rattle.ax_lang.specs.Rows.{HandlerRows, joined, row_list, rows_at, rows_by};
+ghost use Rattle.ax_lang.specs.Statements.{HandlerRows, joined, row_list, rows_at, rows_by};
 ghost use Rattle.ax_lang.specs.Steps.{shown_statement, row_some, shown_handlers};
 ghost use Rattle.ax_lang.specs.Sound.{Sound};
 ghost use Rattle.ax_lang.specs.Programs.{ended, program_in, is_whole, program_of, TakesLine, ReadsProgram};

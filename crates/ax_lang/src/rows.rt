@@ -6,7 +6,9 @@ ghost use Rattle.ax_syntax.specs.Shapes.{shown_shape, parts_of};
 ghost use Rattle.ax_expr.specs.Reading.{tree_of};
 ghost use Rattle.ax_expr.specs.Shown.{shown_expr};
 ghost use Rattle.ax_lang.specs.Tables.{state_names};
-ghost use Rattle.ax_lang.specs.Rows.{index_of, place_in, moment_or, field_or, atom_of, token_of, tree_or, tree_in, row_of};
+ghost use Rattle.ax_lang.specs.Statements.{row_of};
+ghost use Rattle.ax_lang.specs.Rows.{place_in, moment_or, field_or, atom_of, token_of, tree_or, tree_in};
+ghost use Rattle.ax_rules.specs.Parts.{index_of};
 ghost use Rattle.ax_lang.specs.Steps.{row_some};
 
 use crate::step::Stmt;
@@ -145,7 +147,7 @@ fn trees_in(alloc: Global, locals: &[Bytes], words: &[Bytes]) -> Result<ListOf<E
 /// The statement of a line, where the tables are those behind it.
 ///
 /// Condition: there are at most 64 states.
-#[tactic(auto, unfolding(crate::specs::Rows::row_of))]
+#[tactic(auto, unfolding(crate::specs::Statements::row_of))]
 pub fn stmt_of(alloc: Global, tables: &Tables, shape: &Shape) -> Result<Option<Stmt>, NoMemory>
     requires { length tables.now.states ≤ 64 }
     ensures { IfOk result (λ stmt. row_some stmt ≡ row_of tables.now (shown_shape shape.now)) }

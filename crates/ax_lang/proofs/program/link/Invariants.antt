@@ -1,5 +1,5 @@
 use Rattle.std.proofs.Common.{◌≡◌, ◌≤◌, length, map, vec_len}
-use Rattle.ax_lang.specs.Rows.{text_of}
+use Rattle.ax_lang.specs.Statements.{text_of}
 use Rattle.ax_lang.specs.Steps.{shown_statement, text_at, GoesOn}
 use Rattle.ax_lang.proofs.LinkLemmas.{rows_before, FitsSoFar}
 use Rattle.ax_lang.proofs.program.link.Given as goal

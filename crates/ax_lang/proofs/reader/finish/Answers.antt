@@ -2,7 +2,7 @@ use Rattle.std.proofs.Common.{◌≡◌, ℕ, Option, map, sym, subst, true}
 use Rattle.std.specs.List.{list_all}
 use Rattle.ax_state.specs.Decls.{kinds}
 use Rattle.ax_lang.specs.Tables.{most_locals, fields_or}
-use Rattle.ax_lang.specs.Rows.{statement_fits}
+use Rattle.ax_lang.specs.Statements.{statement_fits}
 use Rattle.ax_lang.specs.Steps.{shown_statement, whole_fits}
 use Rattle.ax_lang.proofs.SoundLemmas.{stmts_fit}
 use Rattle.ax_lang.proofs.reader.finish.Goals as goal

@@ -5,7 +5,7 @@ use Rattle.ax_lang.specs.declared.tables.Tables.{Tables}
 use Rattle.ax_lang.specs.declared.step.Stmt.{Stmt}
 use Rattle.ax_lang.specs.declared.step.Handlers.{Handlers}
 use Rattle.ax_lang.specs.Tables.{start}
-use Rattle.ax_lang.specs.Rows.{HandlerRows, no_rows, joined}
+use Rattle.ax_lang.specs.Statements.{HandlerRows, no_rows, joined}
 use Rattle.ax_lang.specs.Steps.{shown_statement, shown_handlers}
 use Rattle.ax_lang.specs.Sound.{Sound}
 use Rattle.ax_lang.specs.Programs.{Reading, shape_in, tables_of, ReadsProgram, after_in, fault_in, rows_in}
