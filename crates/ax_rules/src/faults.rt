@@ -180,7 +180,8 @@ impl Tables {
         mem(word, self.locals.as_slice())
     }
 
-    pub(crate) fn is_inside(&self) -> bool
+    /// Whether a handler is open.
+    pub fn is_inside(&self) -> bool
         ensures { result ≡ is_inside self.now }
     {
         self.frames.len() > 0
