@@ -2,7 +2,10 @@
 use Rattle.std.specs.Prelude.{◌≡◌, ◌≤◌, List, [], ◌∷◌, true, None}
 use Rattle.ax_syntax.specs.Words.{is_name}
 use Rattle.ax_syntax.specs.Shapes.{Shape, Input, State, Let, Get, GetAt, Has, Empty, Put, Add, Remove, If, Each, EachPair, Emit, Timer, Untimer, is_expr, is_exprs}
+use Rattle.ax_rules.specs.declared.tables.Tables.{Tables}
+use Rattle.ax_rules.specs.Lines.{tables_of}
 use Rattle.ax_rules.specs.Faults.{fault_by}
+use Rattle.ax_lang.specs.Rows.{HandlerRows, rows_of}
 
 -- what the words of a shape have by their form
 abbrev pub WellShaped : Shape → Type 0
@@ -28,3 +31,7 @@ WellShaped _ = Unit {0}
 abbrev pub Clean : List Shape → Type 0
 Clean [] = Unit {0}
 Clean (s ∷ ls) = WellShaped s × (fault_by ls s ≡ None) × Clean ls
+
+-- tables and rows of such lines
+abbrev pub AreClean : Tables → HandlerRows → Type 0
+AreClean t rows = (ls : List Shape) × (t ≡ tables_of ls) × (rows ≡ rows_of ls) × Clean ls

@@ -377,6 +377,13 @@ impl Tables {
             || self.is_unserved(shape)
     }
 
+    /// The kind of the state of this name, where there is one.
+    pub fn kind_of(&self, name: &[u8]) -> Option<KindWord>
+        ensures { result ≡ kind_of self.now.states name.now }
+    {
+        kind_of(self.states.as_slice(), name)
+    }
+
     /// The first kind of fault that a line has here, of those that need no look at the open blocks.
     #[tactic(auto, unfolding(crate::specs::Faults::fault_in))]
     pub(crate) fn plain_fault(&self, shape: &Shape) -> Option<FaultKind>
