@@ -3,6 +3,7 @@ use Rattle.std.proofs.Common.{◌≡◌, ℕ, ◌≤◌, List, [], ◌∷◌, re
 use Rattle.std.specs.List.{list_all}
 use Rattle.std.proofs.lemmas.Bool.{and_parts, and_from, lt-ltb, ltb-true}
 use Rattle.ax_text.specs.declared.vocabulary.Kind.{Kind}
+use Rattle.ax_text.specs.declared.vocabulary.Kind.TheVariants as kind
 use Rattle.ax_text.specs.declared.vocabulary.Atom.{Atom}
 use Rattle.ax_text.specs.declared.vocabulary.Atom.TheVariants as atom
 use Rattle.ax_text.specs.Exprs.{Expr, Leaf, Join}

@@ -8,3 +8,7 @@ pub mod ExprLemmas
 pub mod ShapeLemmas
 pub mod NameLemmas
 pub mod SoundLemmas
+pub mod DeclLemmas
+pub mod AcceptedLemmas
+pub mod ReadingLemmas
+pub mod FinishLemmas

@@ -17,7 +17,7 @@ use Rattle.ax_rules.specs.declared.tables.DeclaredState.{DeclaredState}
 use Rattle.ax_rules.specs.declared.tables.Tables.{Tables}
 use Rattle.ax_rules.specs.Parts.{mem, index_of, with_word, some_is, use_of}
 use Rattle.ax_rules.specs.Lines.{names_of}
-use Rattle.ax_rules.specs.Faults.{is_state, is_local, one_if, is_new, count_new, is_too_many, is_value, is_list, is_map, takes, serves, kind_of, some_serves, is_unserved}
+use Rattle.ax_rules.specs.Faults.{is_state, is_local, one_if, is_new, count_new, is_last_state, is_too_many, is_value, is_list, is_map, takes, serves, kind_of, some_serves, is_unserved}
 use Rattle.ax_lang.specs.Rows.{place_or, place_in, put_by}
 use Rattle.ax_lang.specs.Programs.{kind_in}
 use Rattle.ax_lang.proofs.TokenLemmas.{same_equal}
@@ -74,6 +74,10 @@ room t s h =
     let c = or_parts (nat_lt 256 (length t.locals + count_new t s)) _ b.1 in
     ltb-false 256 (length t.locals + count_new t s) c.0
 
+pub last : (t : Tables) (s : Shape) → is_too_many t s ≡ false → is_last_state t s ≡ false
+unfolding is_too_many
+last t s h = let a = or_parts _ _ h in (or_parts (is_last_state t s) _ a.1).0
+
 one_more : (t : Tables) (w : Word) → is_state t w ≡ false → length (with_word (Some w) t.locals) ≤ length t.locals + one_if (is_new t w)
 one_more t w s = cases (mem w t.locals) refl where
   cases : (b : Bool) → mem w t.locals ≡ b → length (if b then t.locals else (t.locals ++ w ∷ [])) ≤ length t.locals + one_if (is_new t w)
@@ -87,23 +91,28 @@ one_more t w s = cases (mem w t.locals) refl where
 pub one_few : (t : Tables) (w : Word) → length t.locals + one_if (is_new t w) ≤ 256 → is_state t w ≡ false → length (with_word (Some w) t.locals) ≤ 256
 one_few t w h s = let e : length (with_word (Some w) t.locals) ≤ length t.locals + one_if (is_new t w) = one_more t w s in omega arith
 
-pub two_few : (t : Tables) (v w : Word) → length t.locals + (one_if (is_new t v) + one_if (is_new t w && not (same_word v w))) ≤ 256 → is_state t v ≡ false → is_state t w ≡ false → same_word v w ≡ false
-    → length (with_word (Some w) (with_word (Some v) t.locals)) ≤ 256
-two_few t v w h p q d = cases (mem w ws) refl where
-  ws : List Word
-  ws = with_word (Some v) t.locals
-  low : length ws ≤ length t.locals + one_if (is_new t v)
-  low = one_more t v p
-  not_there : mem w ws ≡ false → (b : Bool) → mem w t.locals ≡ b → b ≡ false
-  not_there g true e = absurd (true≢false (sym (with_keeps v t.locals w e) ∙ g))
-  not_there g false e = refl
-  cases : (b : Bool) → mem w ws ≡ b → length (if b then ws else (ws ++ w ∷ [])) ≤ 256
-  cases true g = omega arith
-  cases false g =
-      let new : is_new t w ≡ true = ap (λ (b : Bool). not (b || is_state t w)) (not_there g (mem w t.locals) refl) ∙ ap not q in
-      let one : one_if (is_new t w && not (same_word v w)) ≡ 1 = ap one_if (and_from (is_new t w) (not (same_word v w)) new (ap not d)) in
+grown : (ws : List Word) (w : Word) (n : ℕ) → length ws ≤ n → (mem w ws ≡ false → length ws + 1 ≤ n) → length (with_word (Some w) ws) ≤ n
+grown ws w n h g = cases (mem w ws) refl where
+  cases : (b : Bool) → mem w ws ≡ b → length (if b then ws else (ws ++ w ∷ [])) ≤ n
+  cases true e = h
+  cases false e =
+      let low = g e in
       let e : length (ws ++ w ∷ []) ≡ length ws + 1 = length-append ws (w ∷ []) in
       omega arith
+
+pub two_few : (t : Tables) (v w : Word) → length t.locals + (one_if (is_new t v) + one_if (is_new t w && not (same_word v w))) ≤ 256 → is_state t v ≡ false → is_state t w ≡ false → same_word v w ≡ false
+    → length (with_word (Some w) (with_word (Some v) t.locals)) ≤ 256
+two_few t v w h p q d =
+    let ws = with_word (Some v) t.locals in
+    let low : length (with_word (Some v) t.locals) ≤ length t.locals + one_if (is_new t v) = one_more t v p in
+    grown ws w 256 (omega arith) (λ g.
+    let new : is_new t w ≡ true = ap (λ (b : Bool). not (b || is_state t w)) (not_there g (mem w t.locals) refl) ∙ ap not q in
+    let one : one_if (is_new t w && not (same_word v w)) ≡ 1 = ap one_if (and_from (is_new t w) (not (same_word v w)) new (ap not d)) in
+    omega arith)
+  where
+    not_there : mem w (with_word (Some v) t.locals) ≡ false → (b : Bool) → mem w t.locals ≡ b → b ≡ false
+    not_there g true e = absurd (true≢false (sym (with_keeps v t.locals w e) ∙ g))
+    not_there g false e = refl
 
 -- places
 
@@ -119,13 +128,14 @@ place_from n (x ∷ xs) w h = cases (λ g. place_from (n + 1) xs w g) (same_word
 
 same_place : (n : ℕ) (ws : List Word) (v w : Word) → mem v ws ≡ true → mem w ws ≡ true → place_or (index_of n ws v) ≡ place_or (index_of n ws w) → v ≡ w
 same_place n [] v w h g e = absurd (false≢true h)
-same_place n (x ∷ xs) v w h g e = cases (same_word x v) refl (same_word x w) refl h g e where
-  cases : (a : Bool) → same_word x v ≡ a → (b : Bool) → same_word x w ≡ b → (a || mem v xs) ≡ true → (b || mem w xs) ≡ true
+same_place n (x ∷ xs) v w h g e = cases (λ p q r. same_place (n + 1) xs v w p q r) (same_word x v) refl (same_word x w) refl h g e where
+  cases : (mem v xs ≡ true → mem w xs ≡ true → place_or (index_of (n + 1) xs v) ≡ place_or (index_of (n + 1) xs w) → v ≡ w)
+      → (a : Bool) → same_word x v ≡ a → (b : Bool) → same_word x w ≡ b → (a || mem v xs) ≡ true → (b || mem w xs) ≡ true
       → place_or (if a then Some n else index_of (n + 1) xs v) ≡ place_or (if b then Some n else index_of (n + 1) xs w) → v ≡ w
-  cases true p true q h g e = sym (same_equal x v p) ∙ same_equal x w q
-  cases true p false q h g e = let low : n + 1 ≤ place_or (index_of (n + 1) xs w) = place_from (n + 1) xs w g in absurd (omega arith)
-  cases false p true q h g e = let low : n + 1 ≤ place_or (index_of (n + 1) xs v) = place_from (n + 1) xs v h in absurd (omega arith)
-  cases false p false q h g e = same_place (n + 1) xs v w h g e
+  cases go true p true q h g e = sym (same_equal x v p) ∙ same_equal x w q
+  cases go true p false q h g e = let low : n + 1 ≤ place_or (index_of (n + 1) xs w) = place_from (n + 1) xs w g in absurd (omega arith)
+  cases go false p true q h g e = let low : n + 1 ≤ place_or (index_of (n + 1) xs v) = place_from (n + 1) xs v h in absurd (omega arith)
+  cases go false p false q h g e = go h g e
 
 -- names that differ have places that differ
 pub places_differ : (ws : List Word) (v w : Word) → mem v ws ≡ true → mem w ws ≡ true → same_word v w ≡ false → nat_eq (place_in ws v) (place_in ws w) ≡ false
@@ -162,19 +172,23 @@ same_kind_in word.Map = refl
 -- where a name stands, its kind stands too
 found : (ds : List DeclaredState) (w : Word) (k : KindWord) (n : ℕ) → kind_of ds w ≡ Some k → (p : ℕ) × (place_or (index_of n (names_of ds) w) ≡ n + p) × (p < length ds) × (slice_index_or (kinds_in ds) p kind.Value ≡ kind_in k)
 found [] w k n h = absurd (none-some k h)
-found (d ∷ ds) w k n h = cases (same_word d.name w) h where
+found (d ∷ ds) w k n h = cases (λ e. found ds w k (n + 1) e) (same_word d.name w) h where
   some : (a b : KindWord) → Some a ≡ Some b → a ≡ b
   some a b e = cc
-  cases : (b : Bool) → (if b then Some d.kind else kind_of ds w) ≡ Some k
+  cases : (kind_of ds w ≡ Some k → (p : ℕ) × (place_or (index_of (n + 1) (names_of ds) w) ≡ n + 1 + p) × (p < length ds) × (slice_index_or (kinds_in ds) p kind.Value ≡ kind_in k))
+      → (b : Bool) → (if b then Some d.kind else kind_of ds w) ≡ Some k
       → (p : ℕ) × (place_or (if b then Some n else index_of (n + 1) (names_of ds) w) ≡ n + p) × (p < length (d ∷ ds)) × (slice_index_or (kinds_in (d ∷ ds)) p kind.Value ≡ kind_in k)
-  cases true e = (0, (omega arith), (omega arith), ap kind_in (some d.kind k e))
-  cases false e = let r = found ds w k (n + 1) e in (suc r.0, (let q = r.1 in omega arith), (let q = r.2 in omega arith), r.3)
+  cases go true e = (0, (omega arith), (omega arith), ap kind_in (some d.kind k e))
+  cases go false e = let r = go e in (suc r.0, (let q = r.1 in omega arith), (let q = r.2 in omega arith), r.3)
+
+none_before : (n : ℕ) → 0 + n ≡ n
+none_before n = omega arith
 
 -- a state that is declared exists, and is of its kind
 pub state_fits : (ds : List DeclaredState) (w : Word) (k : KindWord) → kind_of ds w ≡ Some k → has_kind (kinds_in ds) (place_in (names_of ds) w) (kind_in k) ≡ true
 state_fits ds w k h =
     let r = found ds w k 0 h in
-    let place : place_in (names_of ds) w ≡ r.0 = r.1 in
+    let place : place_in (names_of ds) w ≡ r.0 = r.1 ∙ none_before r.0 in
     let n : length (kinds_in ds) ≡ length ds = length-map ds (λ (d : DeclaredState). kind_in d.kind) in
     let low : r.0 < length ds = r.2 in
     subst (λ (p : ℕ). has_kind (kinds_in ds) p (kind_in k) ≡ true) (sym place)

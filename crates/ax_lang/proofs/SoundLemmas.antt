@@ -31,7 +31,7 @@ use Rattle.ax_lang.specs.Clean.{WellShaped, Clean}
 use Rattle.ax_lang.specs.Programs.{kind_in, fields_or}
 use Rattle.ax_lang.proofs.FitLemmas.{rows_grow}
 use Rattle.ax_lang.proofs.ExprLemmas.{values_of, is_known, expr_known, exprs_known, all_known}
-use Rattle.ax_lang.proofs.NameLemmas.{with_mem, with_keeps, same_names, room, one_few, two_few, name_low, places_differ, distinct_last, kinds_in, served, state_fits, value_fits, list_fits, map_fits, put_fits}
+use Rattle.ax_lang.proofs.NameLemmas.{with_mem, with_keeps, same_names, room, last, one_few, two_few, name_low, places_differ, distinct_last, kinds_in, served, state_fits, value_fits, list_fits, map_fits, put_fits}
 
 if_none : (b : Bool) (k : FaultKind) (r : Option FaultKind) → (if b then Some k else r) ≡ None → (b ≡ false) × (r ≡ None)
 if_none true k r h = absurd (none-some k (sym h))
@@ -55,7 +55,7 @@ no_fault t s h =
     let f = if_none (has_wrong_kind t s) fault.Kind _ e.1 in
     record { stands = not-false (may_stand t s) a.0; few = b.0; once = d.0; known = e.0; kind = f.0 }
 
-abbrev UpToSixteen : Option ℕ → Type 0
+abbrev pub UpToSixteen : Option ℕ → Type 0
 UpToSixteen None = Unit {0}
 UpToSixteen (Some n) = n ≤ 16
 
@@ -71,6 +71,8 @@ pub record Sound (t : Tables) (rows : HandlerRows) : Type 0 where
   pub input : t.row ≡ true → is_some t.fields ≡ true
   -- before it there are no rows
   pub before : t.row ≡ false → rows ≡ no_rows
+  -- and before `on timer` none of it
+  pub idle : t.timer ≡ false → rows.timer ≡ []
   -- what rows speak of exists; a timer has no values
   pub row : list_all (row_fits (fields_or t.fields) t.most (kinds_in t.states)) rows.row ≡ true
   pub timer : list_all (row_fits 0 t.most (kinds_in t.states)) rows.timer ≡ true
@@ -93,6 +95,11 @@ timer_added : (p : Row → Bool) (timer : Bool) (o : Option Row) (rows : Handler
 timer_added p timer None rows h g = h
 timer_added p true (Some r) rows h g = all_with p rows.timer r h (g refl)
 timer_added p false (Some r) rows h g = h
+
+no_timer : (timer : Bool) (o : Option Row) (rows : HandlerRows) → timer ≡ false → rows.timer ≡ [] → (with_row timer o rows).timer ≡ []
+no_timer timer None rows q h = h
+no_timer true (Some r) rows q h = absurd (true≢false q)
+no_timer false (Some r) rows q h = h
 
 -- declarations
 
@@ -119,17 +126,17 @@ sound_input t rows n h i f =
       inside = h.inside;
       input = λ q. refl;
       before = h.before;
+      idle = h.idle;
       row = ap (λ (rs : HandlerRows). list_all (row_fits n (max t.most (length t.locals)) (kinds_in t.states)) rs.row) e;
       timer = ap (λ (rs : HandlerRows). list_all (row_fits 0 (max t.most (length t.locals)) (kinds_in t.states)) rs.timer) e;
     }
 
 sound_state : (t : Tables) (rows : HandlerRows) (name : Word) (kind : KindWord) → Sound t rows → is_name name ≡ true → NoFault t (shape.State name kind) → Sound (behind (shape.State name kind) t) rows
-unfolding behind is_too_many is_twice may_stand
+unfolding behind is_twice may_stand
 sound_state t rows name kind h w f =
     let before : t.row ≡ false = not-true t.row (and_parts (not (is_inside t) && is_some t.fields) (not t.row) f.stands).1 in
     let e : rows ≡ no_rows = h.before before in
-    let last = or_parts (nat_le 64 (length t.states)) _ (or_parts _ (is_last_state t (shape.State name kind) || _) f.few).1 in
-    let room : length t.states < 64 = leb-false 64 (length t.states) last.0 in
+    let room : length t.states < 64 = leb-false 64 (length t.states) (last t (shape.State name kind) f.few) in
     let ds = (behind (shape.State name kind) t).states in
     let names : names_of ds ≡ names_of t.states ++ name ∷ [] = map-append (λ (d : DeclaredState). d.name) t.states _ in
     let most = max t.most (length t.locals) in
@@ -145,14 +152,15 @@ sound_state t rows name kind h w f =
       inside = h.inside;
       input = h.input;
       before = h.before;
+      idle = h.idle;
       row = ap (λ (rs : HandlerRows). list_all (row_fits (fields_or t.fields) most (kinds_in ds)) rs.row) e;
       timer = ap (λ (rs : HandlerRows). list_all (row_fits 0 most (kinds_in ds)) rs.timer) e;
     }
 
 -- a handler begins
-sound_begun : (t : Tables) (rows : HandlerRows) (row timer : Bool) (n : ℕ) (frames : List Frame) (widest : ℕ) → Sound t rows → row ≡ true → is_some t.fields ≡ true
+sound_begun : (t : Tables) (rows : HandlerRows) (row timer : Bool) (n : ℕ) (frames : List Frame) (widest : ℕ) → Sound t rows → row ≡ true → (timer ≡ false → rows.timer ≡ []) → is_some t.fields ≡ true
     → Sound (record { fields = t.fields; states = t.states; row = row; timer = timer; locals = []; statements = n; frames = frames; widest = widest; most = max t.most 0 }) rows
-sound_begun t rows row timer n frames widest h r f =
+sound_begun t rows row timer n frames widest h r i f =
     let few : t.most ≤ 256 = h.most in
     record {
       fields = h.fields;
@@ -164,19 +172,20 @@ sound_begun t rows row timer n frames widest h r f =
       inside = λ q. r;
       input = λ q. f;
       before = λ q. absurd (true≢false (sym r ∙ q));
+      idle = i;
       row = rows_grow (fields_or t.fields) (fields_or t.fields) t.most (max t.most 0) (kinds_in t.states) rows.row (omega arith) (omega arith) h.row;
       timer = rows_grow 0 0 t.most (max t.most 0) (kinds_in t.states) rows.timer (omega arith) (omega arith) h.timer;
     }
 
 sound_row : (t : Tables) (rows : HandlerRows) → Sound t rows → NoFault t shape.OnRow → Sound (behind shape.OnRow t) rows
 unfolding behind may_stand
-sound_row t rows h f = sound_begun t rows true t.timer _ _ _ h refl (and_parts (not (is_inside t)) (is_some t.fields) f.stands).1
+sound_row t rows h f = sound_begun t rows true t.timer _ _ _ h refl h.idle (and_parts (not (is_inside t)) (is_some t.fields) f.stands).1
 
 sound_timer : (t : Tables) (rows : HandlerRows) → Sound t rows → NoFault t shape.OnTimer → Sound (behind shape.OnTimer t) rows
 unfolding behind may_stand
 sound_timer t rows h f =
     let row : t.row ≡ true = (and_parts (not (is_inside t)) t.row f.stands).1 in
-    sound_begun t rows t.row true _ _ _ h row (h.input row)
+    sound_begun t rows t.row true _ _ _ h row (λ q. absurd (true≢false q)) (h.input row)
 
 -- lines of a handler
 
@@ -203,6 +212,7 @@ sound_more t rows names n frames widest o h inside few fit =
       inside = λ q. row;
       input = h.input;
       before = λ q. absurd (true≢false (sym row ∙ q));
+      idle = λ q. no_timer t.timer o rows q (h.idle q);
       row = row_added (row_fits fields later ks) t.timer o rows (rows_grow fields fields now later ks rows.row (omega arith) more h.row) (here false);
       timer = timer_added (row_fits 0 later ks) t.timer o rows (rows_grow 0 0 now later ks rows.timer (omega arith) more h.timer) (here true);
     }
@@ -238,7 +248,7 @@ sound_let t rows name value h w f =
     let r = reads t (shape.Let name value) f in
     let names = with_word (Some name) t.locals in
     let most = max t.most (length names) in
-    sound_more t rows names _ _ _ _ h f.stands (one_few t name (room t (shape.Let name value) f.few) r.set)
+    sound_more t rows names _ _ _ (row_of (behind (shape.Let name value) t) (shape.Let name value)) h f.stands (one_few t name (room t (shape.Let name value) f.few) r.set)
     (and_from (nat_lt (place_in names name) most) (expr_fits (values_of t) most (tree_in names value)) (name_low names name most (with_mem name t.locals) (omega arith))
     (expr_known t names most value w r.reads (with_keeps name t.locals) (omega arith)))
 
@@ -249,7 +259,7 @@ sound_get t rows name state missing h w f =
     let k = served t (shape.Get name state missing) state refl r.served in
     let names = with_word (Some name) t.locals in
     let most = max t.most (length names) in
-    sound_more t rows names _ _ _ _ h f.stands (one_few t name (room t (shape.Get name state missing) f.few) r.set)
+    sound_more t rows names _ _ _ (row_of (behind (shape.Get name state missing) t) (shape.Get name state missing)) h f.stands (one_few t name (room t (shape.Get name state missing) f.few) r.set)
     (and_from _ (expr_fits (values_of t) most (tree_in names missing))
     (and_from (nat_lt (place_in names name) most) _ (name_low names name most (with_mem name t.locals) (omega arith)) (value_fits t.states state k.0 k.1 k.2))
     (expr_known t names most missing w r.reads (with_keeps name t.locals) (omega arith)))
@@ -262,7 +272,7 @@ sound_get_at t rows name state at missing h v w f =
     let k = served t (shape.GetAt name state at missing) state refl r.served in
     let names = with_word (Some name) t.locals in
     let most = max t.most (length names) in
-    sound_more t rows names _ _ _ _ h f.stands (one_few t name (room t (shape.GetAt name state at missing) f.few) r.set)
+    sound_more t rows names _ _ _ (row_of (behind (shape.GetAt name state at missing) t) (shape.GetAt name state at missing)) h f.stands (one_few t name (room t (shape.GetAt name state at missing) f.few) r.set)
     (and_from _ _
     (and_from (nat_lt (place_in names name) most) _ (name_low names name most (with_mem name t.locals) (omega arith)) (map_fits t.states state k.0 k.1 k.2))
     (and_from (expr_fits (values_of t) most (tree_in names at)) (expr_fits (values_of t) most (tree_in names missing))
@@ -276,7 +286,7 @@ sound_has t rows name state at h w f =
     let k = served t (shape.Has name state at) state refl r.served in
     let names = with_word (Some name) t.locals in
     let most = max t.most (length names) in
-    sound_more t rows names _ _ _ _ h f.stands (one_few t name (room t (shape.Has name state at) f.few) r.set)
+    sound_more t rows names _ _ _ (row_of (behind (shape.Has name state at) t) (shape.Has name state at)) h f.stands (one_few t name (room t (shape.Has name state at) f.few) r.set)
     (and_from _ (expr_fits (values_of t) most (tree_in names at))
     (and_from (nat_lt (place_in names name) most) _ (name_low names name most (with_mem name t.locals) (omega arith)) (map_fits t.states state k.0 k.1 k.2))
     (expr_known t names most at w r.reads (with_keeps name t.locals) (omega arith)))
@@ -288,7 +298,7 @@ sound_empty t rows name state h f =
     let k = served t (shape.Empty name state) state refl r.served in
     let names = with_word (Some name) t.locals in
     let most = max t.most (length names) in
-    sound_more t rows names _ _ _ _ h f.stands (one_few t name (room t (shape.Empty name state) f.few) r.set)
+    sound_more t rows names _ _ _ (row_of (behind (shape.Empty name state) t) (shape.Empty name state)) h f.stands (one_few t name (room t (shape.Empty name state) f.few) r.set)
     (and_from (nat_lt (place_in names name) most) _ (name_low names name most (with_mem name t.locals) (omega arith)) (map_fits t.states state k.0 k.1 k.2))
 
 sound_put : (t : Tables) (rows : HandlerRows) (state : Word) (values : List Word) → Sound t rows → is_exprs values ≡ true → NoFault t (shape.Put state values) → SoundOn t rows (shape.Put state values)
@@ -298,7 +308,7 @@ sound_put t rows state values h w f =
     let k = served t (shape.Put state values) state refl r.served in
     let most = max t.most (length t.locals) in
     let same : length (parts_of values) ≡ length (map (tree_in t.locals) (parts_of values)) = sym (length-map (parts_of values) (tree_in t.locals)) in
-    sound_more t rows t.locals _ _ _ _ h f.stands (few_locals t rows h)
+    sound_more t rows t.locals _ _ _ (row_of (behind (shape.Put state values) t) (shape.Put state values)) h f.stands (few_locals t rows h)
     (put_fits (values_of t) most t.states state k.0 (map (tree_in t.locals) (parts_of values)) k.1 (subst (λ (n : ℕ). takes k.0 n ≡ true) same k.2)
     (exprs_known t t.locals most values w r.reads (same_names t.locals) (omega arith)))
 
@@ -308,7 +318,7 @@ sound_add t rows state value h w f =
     let r = reads t (shape.Add state value) f in
     let k = served t (shape.Add state value) state refl r.served in
     let most = max t.most (length t.locals) in
-    sound_more t rows t.locals _ _ _ _ h f.stands (few_locals t rows h)
+    sound_more t rows t.locals _ _ _ (row_of (behind (shape.Add state value) t) (shape.Add state value)) h f.stands (few_locals t rows h)
     (and_from _ (expr_fits (values_of t) most (tree_in t.locals value)) (list_fits t.states state k.0 k.1 k.2) (expr_known t t.locals most value w r.reads (same_names t.locals) (omega arith)))
 
 sound_remove : (t : Tables) (rows : HandlerRows) (state : Word) (at : List Word) → Sound t rows → is_expr at ≡ true → NoFault t (shape.Remove state at) → SoundOn t rows (shape.Remove state at)
@@ -317,7 +327,7 @@ sound_remove t rows state at h w f =
     let r = reads t (shape.Remove state at) f in
     let k = served t (shape.Remove state at) state refl r.served in
     let most = max t.most (length t.locals) in
-    sound_more t rows t.locals _ _ _ _ h f.stands (few_locals t rows h)
+    sound_more t rows t.locals _ _ _ (row_of (behind (shape.Remove state at) t) (shape.Remove state at)) h f.stands (few_locals t rows h)
     (and_from _ (expr_fits (values_of t) most (tree_in t.locals at)) (map_fits t.states state k.0 k.1 k.2) (expr_known t t.locals most at w r.reads (same_names t.locals) (omega arith)))
 
 sound_clear : (t : Tables) (rows : HandlerRows) (state : Word) → Sound t rows → NoFault t (shape.Clear state) → SoundOn t rows (shape.Clear state)
@@ -325,12 +335,12 @@ unfolding SoundOn behind row_of may_stand
 sound_clear t rows state h f =
     let r = reads t (shape.Clear state) f in
     let k = served t (shape.Clear state) state refl r.served in
-    sound_more t rows t.locals _ _ _ _ h f.stands (few_locals t rows h) (and_parts _ _ (state_fits t.states state k.0 k.1)).0
+    sound_more t rows t.locals _ _ _ (row_of (behind (shape.Clear state) t) (shape.Clear state)) h f.stands (few_locals t rows h) (and_parts _ _ (state_fits t.states state k.0 k.1)).0
 
 sound_if : (t : Tables) (rows : HandlerRows) (test : List Word) → Sound t rows → is_expr test ≡ true → NoFault t (shape.If test) → SoundOn t rows (shape.If test)
 unfolding SoundOn behind row_of may_stand
 sound_if t rows test h w f =
-    sound_more t rows t.locals _ _ _ _ h f.stands (few_locals t rows h)
+    sound_more t rows t.locals _ _ _ (row_of (behind (shape.If test) t) (shape.If test)) h f.stands (few_locals t rows h)
     (expr_known t t.locals (max t.most (length t.locals)) test w (reads t (shape.If test) f).reads (same_names t.locals) (omega arith))
 
 sound_each : (t : Tables) (rows : HandlerRows) (name state : Word) → Sound t rows → NoFault t (shape.Each name state) → SoundOn t rows (shape.Each name state)
@@ -340,7 +350,7 @@ sound_each t rows name state h f =
     let k = served t (shape.Each name state) state refl r.served in
     let names = with_word (Some name) t.locals in
     let most = max t.most (length names) in
-    sound_more t rows names _ _ _ _ h f.stands (one_few t name (room t (shape.Each name state) f.few) r.set)
+    sound_more t rows names _ _ _ (row_of (behind (shape.Each name state) t) (shape.Each name state)) h f.stands (one_few t name (room t (shape.Each name state) f.few) r.set)
     (and_from (nat_lt (place_in names name) most) _ (name_low names name most (with_mem name t.locals) (omega arith)) (list_fits t.states state k.0 k.1 k.2))
 
 sound_each_pair : (t : Tables) (rows : HandlerRows) (key number state : Word) → Sound t rows → NoFault t (shape.EachPair key number state) → SoundOn t rows (shape.EachPair key number state)
@@ -353,7 +363,7 @@ sound_each_pair t rows key number state h f =
     let most = max t.most (length names) in
     let has_key = with_keeps number one key (with_mem key t.locals) in
     let has_number = with_mem number one in
-    sound_more t rows names _ _ _ _ h f.stands (two_few t key number (room t (shape.EachPair key number state) f.few) r.set r.also f.once)
+    sound_more t rows names _ _ _ (row_of (behind (shape.EachPair key number state) t) (shape.EachPair key number state)) h f.stands (two_few t key number (room t (shape.EachPair key number state) f.few) r.set r.also f.once)
     (and_from _ _ (and_from (nat_lt (place_in names key) most && nat_lt (place_in names number) most) _
     (and_from (nat_lt (place_in names key) most) (nat_lt (place_in names number) most) (name_low names key most has_key (omega arith)) (name_low names number most has_number (omega arith)))
     (ap not (places_differ names key number has_key has_number f.once)))
@@ -362,19 +372,19 @@ sound_each_pair t rows key number state h f =
 sound_emit : (t : Tables) (rows : HandlerRows) (values : List Word) → Sound t rows → is_exprs values ≡ true → NoFault t (shape.Emit values) → SoundOn t rows (shape.Emit values)
 unfolding SoundOn behind row_of may_stand
 sound_emit t rows values h w f =
-    sound_more t rows t.locals _ _ _ _ h f.stands (few_locals t rows h)
+    sound_more t rows t.locals _ _ _ (row_of (behind (shape.Emit values) t) (shape.Emit values)) h f.stands (few_locals t rows h)
     (exprs_known t t.locals (max t.most (length t.locals)) values w (reads t (shape.Emit values) f).reads (same_names t.locals) (omega arith))
 
 sound_set : (t : Tables) (rows : HandlerRows) (time : List Word) → Sound t rows → is_expr time ≡ true → NoFault t (shape.Timer time) → SoundOn t rows (shape.Timer time)
 unfolding SoundOn behind row_of may_stand
 sound_set t rows time h w f =
-    sound_more t rows t.locals _ _ _ _ h f.stands (few_locals t rows h)
+    sound_more t rows t.locals _ _ _ (row_of (behind (shape.Timer time) t) (shape.Timer time)) h f.stands (few_locals t rows h)
     (expr_known t t.locals (max t.most (length t.locals)) time w (reads t (shape.Timer time) f).reads (same_names t.locals) (omega arith))
 
 sound_unset : (t : Tables) (rows : HandlerRows) (time : List Word) → Sound t rows → is_expr time ≡ true → NoFault t (shape.Untimer time) → SoundOn t rows (shape.Untimer time)
 unfolding SoundOn behind row_of may_stand
 sound_unset t rows time h w f =
-    sound_more t rows t.locals _ _ _ _ h f.stands (few_locals t rows h)
+    sound_more t rows t.locals _ _ _ (row_of (behind (shape.Untimer time) t) (shape.Untimer time)) h f.stands (few_locals t rows h)
     (expr_known t t.locals (max t.most (length t.locals)) time w (reads t (shape.Untimer time) f).reads (same_names t.locals) (omega arith))
 
 -- lines of one word
@@ -385,22 +395,22 @@ top_inside p (f ∷ fs) h = lt-ltb 0 (length (f ∷ fs)) (omega arith)
 
 sound_end : (t : Tables) (rows : HandlerRows) → Sound t rows → NoFault t shape.End → SoundOn t rows shape.End
 unfolding SoundOn behind row_of may_stand
-sound_end t rows h f = sound_more t rows t.locals _ _ _ _ h (and_parts (is_inside t) _ f.stands).0 (few_locals t rows h) (ends _) where
+sound_end t rows h f = sound_more t rows t.locals _ _ _ (row_of (behind shape.End t) shape.End) h (and_parts (is_inside t) _ f.stands).0 (few_locals t rows h) (ends (is_inside (behind shape.End t))) where
   ends : (b : Bool) → SomeFits (row_fits (values_of t) (max t.most (length t.locals)) (kinds_in t.states)) (if b then Some EndRow else None)
   ends true = refl
   ends false = tt
 
 sound_else : (t : Tables) (rows : HandlerRows) → Sound t rows → NoFault t shape.Else → SoundOn t rows shape.Else
 unfolding SoundOn behind row_of may_stand
-sound_else t rows h f = sound_more t rows t.locals _ _ _ _ h (top_inside is_yes t.frames f.stands) (few_locals t rows h) refl
+sound_else t rows h f = sound_more t rows t.locals _ _ _ (row_of (behind shape.Else t) shape.Else) h (top_inside is_yes t.frames f.stands) (few_locals t rows h) refl
 
 sound_with : (t : Tables) (rows : HandlerRows) → Sound t rows → NoFault t shape.With → SoundOn t rows shape.With
 unfolding SoundOn behind row_of may_stand
-sound_with t rows h f = sound_more t rows t.locals _ _ _ _ h (top_inside is_one t.frames f.stands) (few_locals t rows h) refl
+sound_with t rows h f = sound_more t rows t.locals _ _ _ (row_of (behind shape.With t) shape.With) h (top_inside is_one t.frames f.stands) (few_locals t rows h) refl
 
 sound_both : (t : Tables) (rows : HandlerRows) → Sound t rows → NoFault t shape.Both → SoundOn t rows shape.Both
 unfolding SoundOn behind row_of may_stand
-sound_both t rows h f = sound_more t rows t.locals _ _ _ _ h f.stands (few_locals t rows h) refl
+sound_both t rows h f = sound_more t rows t.locals _ _ _ (row_of (behind shape.Both t) shape.Both) h f.stands (few_locals t rows h) refl
 
 -- a line without fault
 sound_shape : (t : Tables) (rows : HandlerRows) (s : Shape) → Sound t rows → WellShaped s → NoFault t s → SoundOn t rows s
@@ -441,6 +451,7 @@ sound_none = record {
   inside = λ q. absurd (false≢true q);
   input = λ q. absurd (false≢true q);
   before = λ q. refl;
+  idle = λ q. refl;
   row = refl;
   timer = refl;
 }
@@ -455,10 +466,9 @@ sound_lines (s ∷ ls) c =
     (sound_shape t (rows_of ls) s (sound_lines ls c.2) c.0 (no_fault t s c.1))
 
 states_in : (t : Tables) (s : Shape) → is_too_many t s ≡ false → length t.states ≤ 64 → length (behind s t).states ≤ 64
-unfolding behind is_too_many
+unfolding behind
 states_in t (shape.State a b) f h =
-    let last = or_parts (nat_le 64 (length t.states)) _ (or_parts _ (is_last_state t (shape.State a b) || _) f).1 in
-    let low : length t.states < 64 = leb-false 64 (length t.states) last.0 in
+    let low : length t.states < 64 = leb-false 64 (length t.states) (last t (shape.State a b) f) in
     let n : length (behind (shape.State a b) t).states ≡ length t.states + 1 = length-append t.states _ in
     omega arith
 states_in t s f h = h

@@ -41,13 +41,13 @@ fields_or None = 0
 fields_or (Some n) = n
 
 -- the text of a handler that may be missing
-abbrev pub text_if : Bool → List Row → Option Text
-text_if true rows = Some (text_of rows)
-text_if false rows = None
+abbrev pub timer_text : Bool → List Row → Option Text
+timer_text true rows = Some (text_of rows)
+timer_text false rows = None
 
 -- the program of these rows, where the tables are those at the end
 unfoldable pub program_in : Tables → HandlerRows → Program
-program_in t rows = record { fields = fields_or t.fields; states = map state_in t.states; row = text_of rows.row; timer = text_if t.timer rows.timer }
+program_in t rows = record { fields = fields_or t.fields; states = map state_in t.states; row = text_of rows.row; timer = timer_text t.timer rows.timer }
 
 pub data Reading : Type 0 where
   Faulty : (line kind : ℕ) → Reading
@@ -71,13 +71,13 @@ abbrev pub shown_handlers : Handlers → HandlerRows
 shown_handlers h = record { row = map shown_row h.row.items; timer = map shown_row h.timer.items }
 
 -- the rows behind a line, where the tables are those behind it
-abbrev pub rows_some : Option Shape → Tables → HandlerRows → HandlerRows
-rows_some None t rows = rows
-rows_some (Some s) t rows = with_row t.timer (row_of t s) rows
+abbrev pub rows_behind : Option Shape → Tables → HandlerRows → HandlerRows
+rows_behind None t rows = rows
+rows_behind (Some s) t rows = with_row t.timer (row_of t s) rows
 
 -- a line has a fault, or was taken
 abbrev pub TakesLine : Option Shape → Tables → Tables → HandlerRows → HandlerRows → Result (Option FaultKind) NoMemory → Type 0
-TakesLine s t t' rows rows' (Ok None) = (fault_some t s ≡ None) × (t' ≡ behind_some s t) × (rows' ≡ rows_some s t' rows)
+TakesLine s t t' rows rows' (Ok None) = (fault_some t s ≡ None) × (t' ≡ behind_some s t) × (rows' ≡ rows_behind s t' rows)
 TakesLine s t t' rows rows' (Ok (Some kind)) = fault_some t s ≡ Some kind
 TakesLine s t t' rows rows' (Err e) = Unit {0}
 

@@ -1,5 +1,5 @@
 //! The reader of programs.
-ghost use Rattle.std.specs.Prelude.{◌≡◌, ◌≤◌, ◌++◌, ◌∷◌, [], length, map, true, IfOk, OnOk};
+ghost use Rattle.std.specs.Prelude.{◌≡◌, ◌≤◌, ◌&&◌, ◌++◌, ◌∷◌, [], length, map, true, false, IfOk, OnOk};
 ghost use Rattle.ax_base.specs.Words.{words_of};
 ghost use Rattle.ax_text.specs.Programs.{State};
 ghost use Rattle.ax_state.specs.Decls.{shown_states};
@@ -9,7 +9,8 @@ ghost use Rattle.ax_lang.specs.Rows.{with_row};
 ghost use Rattle.ax_lang.specs.Clean.{AreClean};
 ghost use Rattle.ax_lang.specs.Forms.{shown_row};
 ghost use Rattle.ax_lang.specs.Shown.{shown_program};
-ghost use Rattle.ax_lang.specs.Programs.{kind_in, state_in, row_some, shown_handlers, program_in, program_of, TakesLine, ReadsProgram};
+ghost use Rattle.ax_lang.specs.Steps.{rows_some, text_if};
+ghost use Rattle.ax_lang.specs.Programs.{kind_in, state_in, fields_or, timer_text, row_some, shown_handlers, program_in, program_of, TakesLine, ReadsProgram};
 
 use crate::program::Program;
 use crate::rows::row_of;
@@ -118,6 +119,24 @@ fn decls_of(alloc: Global, states: &[DeclaredState]) -> Result<Decls, NoMemory>
     Ok(decls)
 }
 
+fn fields_or(fields: Option<u8>) -> u8
+    ensures { result ≡ fields_or fields }
+{
+    match fields {
+        None => 0,
+        Some(n) => n,
+    }
+}
+
+// The lines of `on timer`, where there is one; without one there are none.
+fn timer_if(has: bool, rows: Vec<Row>) -> Option<Vec<Row>>
+    requires { has ≡ false → map shown_row rows.items ≡ [] }
+    ensures rows { rows_some result ≡ map shown_row rows.items }
+    ensures text { text_if result ≡ timer_text has (map shown_row rows.items) }
+{
+    if has { Some(rows) } else { None }
+}
+
 // The program of a section's lines, none of which has a fault.
 #[tactic(auto, unfolding(crate::specs::Programs::program_in))]
 fn finish(alloc: Global, tables: Tables, handlers: Handlers) -> Result<Program, NoMemory>
@@ -126,11 +145,18 @@ fn finish(alloc: Global, tables: Tables, handlers: Handlers) -> Result<Program, 
     ensures { IfOk result (λ p. shown_program p ≡ program_in tables (shown_handlers handlers)) }
 {
     let decls = decls_of(alloc, tables.states.as_slice())?;
-    let fields = tables.fields.unwrap_or(0);
+    let fields = fields_or(tables.fields);
     let width = tables.widest.max(1) as u8;
     let Handlers { row, timer } = handlers;
-    let timer = if tables.timer { Some(timer) } else { None };
+    let timer = timer_if(tables.timer, timer);
     Program::new(alloc, fields, decls, tables.most, width, row, timer)
+}
+
+// Whether nothing is due at the end of the section.
+fn is_done(tables: &Tables, end: SectionEnd) -> bool
+    ensures { result ≡ (is_whole tables.now && end.found) }
+{
+    tables.is_whole() && end.found
 }
 
 /// The program of a section's lines, or its first fault: each line is tested against all lines before it, for one kind of
@@ -159,7 +185,7 @@ pub fn read_program(alloc: Global, lines: &[Line], end: SectionEnd) -> Result<Pr
             Err(NoMemory) => return Err(ProgFault::NoMemory),
         }
     }
-    if !(tables.is_whole() && end.found) {
+    if !is_done(&tables, end) {
         return Err(ProgFault::At {
             line: end.line,
             kind: FaultKind::NoEnd.number(),

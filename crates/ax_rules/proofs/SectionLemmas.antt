@@ -20,15 +20,15 @@ shapes_last [] before l = refl
 shapes_last (k ∷ ls) before l = shapes_last ls (with_line (shape_in k) before) l
 
 -- the shapes of one more line
-shapes_more : (ls : List Line) (i : ℕ) (d : Line) → i < length ls → shapes_of (take (i + 1) ls) ≡ with_line (shape_in (get_or ls i d)) (shapes_of (take i ls))
+pub shapes_more : (ls : List Line) (i : ℕ) (d : Line) → i < length ls → shapes_of (take (i + 1) ls) ≡ with_line (shape_in (get_or ls i d)) (shapes_of (take i ls))
 shapes_more ls i d h = ap (shapes_from []) (take_more ls i d h) ∙ shapes_last (take i ls) [] (get_or ls i d)
 
-fault_is : (before : List Shape) (s : Option Shape) → fault_some (tables_of before) s ≡ fault_at before s
+pub fault_is : (before : List Shape) (s : Option Shape) → fault_some (tables_of before) s ≡ fault_at before s
 unfolding fault_by
 fault_is before None = refl
 fault_is before (Some s) = refl
 
-behind_is : (before : List Shape) (s : Option Shape) → behind_some s (tables_of before) ≡ tables_of (with_line s before)
+pub behind_is : (before : List Shape) (s : Option Shape) → behind_some s (tables_of before) ≡ tables_of (with_line s before)
 behind_is before None = refl
 behind_is before (Some s) = sym (behind_line s before)
 
