@@ -26,7 +26,9 @@ use Rattle.ax_expr.specs.Levels.{level_of}
 use Rattle.ax_expr.specs.Reading.{Waiting, Opened, Before, joined, whole, closed, with_some, walk, tree_of}
 use Rattle.ax_lang.specs.declared.tables.Tables.{Tables}
 use Rattle.ax_lang.specs.Tables.{is_state, is_local, is_comma, is_up_to, is_unknown_name, is_unknown_value, is_unknown, fields_or}
-use Rattle.ax_lang.specs.Rows.{Statement, Acts, Asks, index_of, place_or, place_in, number_or, moment_or, field_or, atom_of, sign_or, token_of, tree_or, tree_in, statement_fits}
+use Rattle.ax_lang.specs.Statements.{Statement, Acts, Asks, statement_fits}
+use Rattle.ax_lang.specs.Rows.{place_or, place_in, number_or, moment_or, field_or, atom_of, sign_or, token_of, tree_or, tree_in}
+use Rattle.ax_rules.specs.Parts.{index_of}
 
 -- tests
 

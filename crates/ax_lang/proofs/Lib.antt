@@ -1,10 +1,4 @@
-pub mod ExprLemmas
+pub mod FitLemmas
 pub mod StepLemmas
-pub mod ProgramLemmas
-pub mod RowLemmas
 pub mod LinkLemmas
-pub mod SoundLemmas
-pub mod ShapeLemmas
-pub mod ReadingLemmas
-pub mod TokenLemmas
-pub mod AcceptedLemmas
+pub mod ProgramLemmas

@@ -1,137 +1,221 @@
--- A table of steps, one statement more.
-use Rattle.std.proofs.Common.{◌≡◌, ◌∙◌, ℕ, suc, ◌+◌, ◌≤◌, List, [], ◌∷◌, ◌++◌, map, length, refl, sym, ap, arith, Bool, true, false, ◌&&◌, nat_le, length-append, Option}
+-- Lines are put before those that are linked.
+use Rattle.std.proofs.Common.{◌≡◌, ◌∙◌, ℕ, suc, ◌+◌, ◌≤◌, List, [], ◌∷◌, ◌++◌, map, length, refl, sym, ap, subst, arith, length-append, true, ◌&&◌}
 use Rattle.std.specs.List.{list_all}
-use Rattle.std.proofs.lemmas.Bool.{and_parts, and_from, le-leb}
+use Rattle.std.proofs.lemmas.Bool.{and_parts}
 use Rattle.std.proofs.lemmas.List.{map-append}
 use Rattle.std.proofs.lemmas.List.Folds.{list_all-append}
 use Rattle.ax_text.specs.declared.vocabulary.Kind.{Kind}
-use Rattle.ax_text.specs.Texts.{Text, Stop}
-use Rattle.ax_text.specs.Valid.{quiet_fits, asking_fits, text_fits, timer_fits}
+use Rattle.ax_text.specs.Exprs.{Expr}
+use Rattle.ax_text.specs.Texts.{Loop, Text, Stop, Act, Ask, If, Each, Both}
+use Rattle.ax_text.specs.Rows.{Row, SecondRow, EndRow, BothRow, IfRow, EachRow, Level, level, top, below, before, levels_of, text_of}
+use Rattle.ax_expr.specs.declared.tree.Expr.{Expr as CodeExpr}
+use Rattle.ax_expr.specs.Shown.{shown_expr}
+use Rattle.ax_lang.specs.declared.step.Loop.{Loop as CodeLoop}
 use Rattle.ax_lang.specs.declared.step.Stmt.{Stmt}
+use Rattle.ax_lang.specs.declared.step.Stmt.TheVariants as code
 use Rattle.ax_lang.specs.declared.step.Step.{Step}
-use Rattle.ax_lang.specs.Rows.{Statement, Acts, Asks, with_row, text_of, text_if, statement_fits}
-use Rattle.ax_lang.specs.Steps.{shown_statement, text_in, texts_from, text_at, text_some, GoesOn, whole_fits, steps_fit}
-use Rattle.ax_lang.proofs.StepLemmas.{text_more, text_last, texts_length}
-use Rattle.ax_lang.proofs.ExprLemmas.{statement_more}
+use Rattle.ax_lang.specs.declared.step.Row.{Row as CodeRow}
+use Rattle.ax_lang.specs.declared.link.Starts.{Starts}
+use Rattle.ax_lang.specs.Forms.{Form, Acts, Asks, Branches, Repeats, Splits, form_of, form_top, text_with, row_in, shown_loop, shown_row}
+use Rattle.ax_lang.specs.Steps.{row_fits, stmt_fits, steps_fit, text_at, GoesOn}
+use Rattle.ax_lang.specs.Links.{level_at, levels_at, AllUpTo, Taken, CanStand, Added, Linked, FitsWith}
+use Rattle.ax_lang.proofs.StepLemmas.{text_pushed, text_kept, text_end, fits_pushed}
 
--- rows before a text
-abbrev pub rows_before : List Statement → Text → Text
-rows_before [] t = t
-rows_before (r ∷ rs) t = with_row r (rows_before rs t)
+-- open blocks
 
-pub before_stop : (rs : List Statement) → rows_before rs Stop ≡ text_of rs
-before_stop [] = refl
-before_stop (r ∷ rs) = ap (with_row r) (before_stop rs)
+abbrev pub starts : ℕ → ℕ → Starts
+starts text second = record { text = text; second = second }
 
-before_last : (rs : List Statement) (r : Statement) (t : Text) → rows_before (rs ++ r ∷ []) t ≡ rows_before rs (with_row r t)
-before_last [] r t = refl
-before_last (q ∷ rs) r t = ap (with_row q) (before_last rs r t)
+levels_push : (steps : List Step) (blocks : List Starts) (s : Starts) → levels_at steps (blocks ++ s ∷ []) ≡ level_at steps s ∷ levels_at steps blocks
+levels_push steps [] s = refl
+levels_push steps (o ∷ os) s = ap (λ (ls : List Level). ls ++ level_at steps o ∷ []) (levels_push steps os s)
 
-texts_last : (ss : List Step) (xs : List Text) (s : Step) → texts_from xs (ss ++ s ∷ []) ≡ texts_from xs ss ++ with_row (shown_statement s.stmt) (text_in (texts_from xs ss) s.next) ∷ []
-texts_last [] xs s = refl
-texts_last (r ∷ ss) xs s = texts_last ss (xs ++ with_row (shown_statement r.stmt) (text_in xs r.next) ∷ []) s
+up_push : (n : ℕ) (blocks : List Starts) (s : Starts) → AllUpTo n blocks → s.text ≤ n → s.second ≤ n → AllUpTo n (blocks ++ s ∷ [])
+up_push n [] s h a b = (a, b, tt)
+up_push n (o ∷ os) s h a b = (h.0, h.1, up_push n os s h.2 a b)
 
-text_pushed : (ss : List Step) (s : Step) → text_at (ss ++ s ∷ []) (suc (length ss)) ≡ with_row (shown_statement s.stmt) (text_at ss s.next)
+up_more : (n m : ℕ) (blocks : List Starts) → n ≤ m → AllUpTo n blocks → AllUpTo m blocks
+up_more n m [] h u = tt
+up_more n m (o ∷ os) h u = (let a = u.0 in omega arith, let b = u.1 in omega arith, up_more n m os h u.2)
+
+up_parts : (n : ℕ) (blocks : List Starts) (s : Starts) → AllUpTo n (blocks ++ s ∷ []) → (s.text ≤ n) × (s.second ≤ n) × AllUpTo n blocks
+up_parts n [] s h = (h.0, h.1, tt)
+up_parts n (o ∷ os) s h = let p = up_parts n os s h.2 in (p.0, p.1, (h.0, h.1, p.2))
+
+-- a block is taken off
+
+pub taken_some : (blocks rest : List Starts) (s : Starts) → blocks ≡ rest ++ s ∷ [] → Taken blocks s rest
+taken_some blocks rest s e = subst (λ (os : List Starts). Taken os s rest) (sym e) (record {
+  first = λ steps. ap top (levels_push steps rest s);
+  others = λ steps. ap below (levels_push steps rest s);
+  text = λ n h. (up_parts n rest s h).0;
+  second = λ n h. (up_parts n rest s h).1;
+  up = λ n h. (up_parts n rest s h).2;
+})
+
+none_taken : Taken [] (starts 0 0) []
 unfolding text_at
-text_pushed ss s =
-    let ts = texts_from [] ss in
-    let e : length ss ≡ length ts = (let f : length ts ≡ length ss = texts_length ss [] ∙ omega arith in omega arith) in
-    ap (λ (n : ℕ). text_in (texts_from [] (ss ++ s ∷ [])) (suc n)) e
-    ∙ (ap (λ (us : List Text). text_in us (suc (length ts))) (texts_last ss [] s) ∙ text_last ts _)
+none_taken = record { first = λ steps. refl; others = λ steps. refl; text = λ n h. omega arith; second = λ n h. omega arith; up = λ n h. tt }
 
-fits_pushed : (ss : List Step) (s : Step) (fields locals n : ℕ) (ks : List Kind) → steps_fit fields locals ks n ss ≡ true → s.next ≤ n + length ss → whole_fits fields locals ks s.stmt ≡ true → steps_fit fields locals ks n (ss ++ s ∷ []) ≡ true
-fits_pushed [] s fields locals n ks f h g = and_from (nat_le s.next n && whole_fits fields locals ks s.stmt) true (and_from (nat_le s.next n) (whole_fits fields locals ks s.stmt) (le-leb s.next n (omega arith)) g) refl
-fits_pushed (r ∷ ss) s fields locals n ks f h g =
-    let a = and_parts (nat_le r.next n && whole_fits fields locals ks r.stmt) (steps_fit fields locals ks (n + 1) ss) f in
-    and_from (nat_le r.next n && whole_fits fields locals ks r.stmt) (steps_fit fields locals ks (n + 1) (ss ++ s ∷ [])) a.0 (fits_pushed ss s fields locals (n + 1) ks a.1 (omega arith) g)
+empty_list : {A : Type 0} (xs : List A) → length xs ≡ 0 → xs ≡ []
+empty_list [] h = refl
+empty_list (x ∷ xs) h = absurd (omega arith)
 
--- the last statement is taken off
-all_popped : (p : Stmt → Bool) (all rest : List Stmt) (s : Stmt) → all ≡ rest ++ s ∷ [] → list_all p all ≡ true → (list_all p rest ≡ true) × (p s ≡ true)
-all_popped p all rest s e h =
-    let a = and_parts (list_all p rest) (list_all p (s ∷ [])) (sym (ap (list_all p) e ∙ list_all-append p rest (s ∷ [])) ∙ h) in
-    (a.0, (and_parts (p s) true a.1).0)
+pub taken_none : (blocks rest : List Starts) → blocks ≡ [] → rest ≡ [] → Taken blocks (starts 0 0) rest
+taken_none blocks rest e f = subst (λ (os : List Starts). Taken os (starts 0 0) rest) (sym e) (subst (λ (os : List Starts). Taken [] (starts 0 0) os) (sym f) none_taken)
 
--- the texts so far stay
-text_kept : (ss : List Step) (s : Step) (p : ℕ) → p ≤ length ss → text_at (ss ++ s ∷ []) p ≡ text_at ss p
-unfolding text_at
-text_kept ss s p h =
-    let ts = texts_from [] ss in
-    let e : length ts ≡ length ss = texts_length ss [] ∙ omega arith in
-    ap (λ (us : List Text). text_in us p) (texts_last ss [] s) ∙ text_more ts _ p (omega arith)
+-- a step is added
 
--- how far the statements of `all` fit that stand in the table
-abbrev pub FitsSoFar : List Stmt → List Stmt → List Step → List Step → Type 0
-FitsSoFar all rest before now = (fields locals : ℕ) → (ks : List Kind) → steps_fit fields locals ks 0 before ≡ true → list_all (whole_fits fields locals ks) all ≡ true
-    → (steps_fit fields locals ks 0 now ≡ true) × (list_all (whole_fits fields locals ks) rest ≡ true)
+levels_kept : (steps : List Step) (s : Step) (blocks : List Starts) → AllUpTo (length steps) blocks → levels_at (steps ++ s ∷ []) blocks ≡ levels_at steps blocks
+levels_kept steps s [] h = refl
+levels_kept steps s (o ∷ os) h = cc (text_kept steps s o.text h.0, text_kept steps s o.second h.1, levels_kept steps s os h.2)
 
-pub linked_text : (all rest : List Stmt) (s : Stmt) (ss now : List Step) (next place : ℕ) → all ≡ rest ++ s ∷ [] → now ≡ ss ++ record { stmt = s; next = next } ∷ [] → place ≡ length now
-    → rows_before (map shown_statement rest) (text_at now place) ≡ rows_before (map shown_statement all) (text_at ss next)
-linked_text all rest s ss now next place e f g =
-    let step : Step = record { stmt = s; next = next } in
-    let more : List Step = ss ++ step ∷ [] in
-    let long : length more ≡ suc (length ss) = length-append ss (step ∷ []) ∙ omega arith in
-    let text : text_at now place ≡ with_row (shown_statement s) (text_at ss next) =
-    ap (text_at now) g ∙ (ap (λ (zs : List Step). text_at zs (length zs)) f ∙ (ap (text_at more) long ∙ text_pushed ss step)) in
-    ap (rows_before (map shown_statement rest)) text
-    ∙ sym (ap (λ (zs : List Stmt). rows_before (map shown_statement zs) (text_at ss next)) e
-    ∙ (ap (λ (rs : List Statement). rows_before rs (text_at ss next)) (map-append shown_statement rest (s ∷ [])) ∙ before_last (map shown_statement rest) (shown_statement s) (text_at ss next)))
+added_here : (steps : List Step) (blocks : List Starts) (s : Starts) (stmt : Stmt) → CanStand steps blocks s stmt
+    → Added steps blocks s stmt (steps ++ record { stmt = stmt; next = s.text } ∷ []) (blocks ++ starts (length (steps ++ record { stmt = stmt; next = s.text } ∷ [])) s.second ∷ [])
+added_here steps blocks s stmt h =
+    let step : Step = record { stmt = stmt; next = s.text } in
+    let more : List Step = steps ++ step ∷ [] in
+    let long : length more ≡ suc (length steps) = length-append steps (step ∷ []) ∙ omega arith in
+    let text : s.text ≤ length steps = h.1 in
+    let second : s.second ≤ length steps = h.2 in
+    let named : form_top (form_of stmt) ≤ length steps = h.3 in
+    record {
+      levels = levels_push more blocks (starts (length more) s.second) ∙ cc (ap (text_at more) long ∙ text_pushed steps step, text_kept steps step s.second second, levels_kept steps step blocks h.0);
+      up = up_push (length more) blocks (starts (length more) s.second) (up_more (length steps) (length more) blocks (omega arith) h.0) (omega arith) (omega arith);
+      longer = omega arith;
+      stays = λ p low. text_kept steps step p low;
+      fits = λ fields locals ks f g. fits_pushed steps step fields locals 0 ks f (omega arith) g;
+    }
 
-pub linked_long : (ss now : List Step) (s : Step) → now ≡ ss ++ s ∷ [] → length now ≡ length ss + 1
-linked_long ss now s f = ap (λ (zs : List Step). length zs) f ∙ length-append ss (s ∷ [])
+pub added : (steps steps' : List Step) (blocks blocks' : List Starts) (s : Starts) (stmt : Stmt) → CanStand steps blocks s stmt
+    → steps' ≡ steps ++ record { stmt = stmt; next = s.text } ∷ [] → blocks' ≡ blocks ++ starts (length steps') s.second ∷ [] → Added steps blocks s stmt steps' blocks'
+added steps steps' blocks blocks' s stmt h e f =
+    subst (λ (os : List Starts). Added steps blocks s stmt steps' os) (sym f)
+    (subst (λ (ss : List Step). Added steps blocks s stmt ss (blocks ++ starts (length ss) s.second ∷ [])) (sym e) (added_here steps blocks s stmt h))
 
-pub linked_stays : (before ss now : List Step) (s : Step) → now ≡ ss ++ s ∷ [] → length before ≤ length ss → GoesOn before ss → GoesOn before now
-linked_stays before ss now s f h go = λ p low. ap (λ (zs : List Step). text_at zs p) f ∙ (text_kept ss s p (omega arith) ∙ go p low)
+-- lines
 
-pub linked_fits : (whole all rest : List Stmt) (s : Stmt) (before ss now : List Step) (next : ℕ) → all ≡ rest ++ s ∷ [] → now ≡ ss ++ record { stmt = s; next = next } ∷ [] → next ≤ length ss
-    → FitsSoFar whole all before ss → FitsSoFar whole rest before now
-linked_fits whole all rest s before ss now next e f h go = λ fields locals ks a b.
+linked_by : (steps steps' : List Step) (blocks rest blocks' : List Starts) (s : Starts) (stmt : Stmt) → Added steps rest s stmt steps' blocks'
+    → level (text_with (text_at steps) (form_of stmt) s.text) (text_at steps s.second) ∷ levels_at steps rest ≡ before (row_in (form_of stmt)) (levels_at steps blocks)
+    → Linked (row_in (form_of stmt)) steps blocks steps' blocks'
+linked_by steps steps' blocks rest blocks' s stmt a e = record { levels = a.levels ∙ e; up = a.up; longer = a.longer; stays = a.stays; fits = a.fits }
+
+-- a statement that names no places
+abbrev pub IsPlain : Form → Type 0
+IsPlain (Acts q) = Unit {0}
+IsPlain (Asks a) = Unit {0}
+IsPlain (Branches e one other) = ⊥
+IsPlain (Repeats l body) = ⊥
+IsPlain (Splits one two) = ⊥
+
+plain_before : (at : ℕ → Text) (form : Form) (ls rest : List Level) (s : Starts) → IsPlain form → top ls ≡ level (at s.text) (at s.second) → below ls ≡ rest
+    → level (text_with at form s.text) (at s.second) ∷ rest ≡ before (row_in form) ls
+plain_before at (Acts q) ls rest s h e f = cc (e, f)
+plain_before at (Asks a) ls rest s h e f = cc (e, f)
+plain_before at (Branches x one other) ls rest s h e f = absurd h
+plain_before at (Repeats l body) ls rest s h e f = absurd h
+plain_before at (Splits one two) ls rest s h e f = absurd h
+
+pub plain_top : (form : Form) → IsPlain form → form_top form ≡ 0
+plain_top (Acts q) h = refl
+plain_top (Asks a) h = refl
+plain_top (Branches x one other) h = absurd h
+plain_top (Repeats l body) h = absurd h
+plain_top (Splits one two) h = absurd h
+
+pub linked_plain : (steps steps' : List Step) (blocks rest blocks' : List Starts) (s : Starts) (stmt : Stmt) → IsPlain (form_of stmt) → Taken blocks s rest → Added steps rest s stmt steps' blocks' → Linked (row_in (form_of stmt)) steps blocks steps' blocks'
+linked_plain steps steps' blocks rest blocks' s stmt h t a =
+    linked_by steps steps' blocks rest blocks' s stmt a (plain_before (text_at steps) (form_of stmt) (levels_at steps blocks) (levels_at steps rest) s h (t.first steps) (t.others steps))
+
+-- the levels, where the two innermost blocks are these
+if_before : (e : Expr) (ls ms rest : List Level) (i s : Level) → top ls ≡ i → below ls ≡ ms → top ms ≡ s → below ms ≡ rest → level (If e i.text i.second s.text) s.second ∷ rest ≡ before (IfRow e) ls
+if_before e ls ms rest i s a b c d = cc (a, b, c, d)
+
+each_before : (l : Loop) (ls ms rest : List Level) (i s : Level) → top ls ≡ i → below ls ≡ ms → top ms ≡ s → below ms ≡ rest → level (Each l i.text s.text) s.second ∷ rest ≡ before (EachRow l) ls
+each_before l ls ms rest i s a b c d = cc (a, b, c, d)
+
+both_before : (ls ms rest : List Level) (i s : Level) → top ls ≡ i → below ls ≡ ms → top ms ≡ s → below ms ≡ rest → level (Both i.text i.second s.text) s.second ∷ rest ≡ before BothRow ls
+both_before ls ms rest i s a b c d = cc (a, b, c, d)
+
+pub linked_if : (steps steps' : List Step) (blocks inside rest blocks' : List Starts) (i s : Starts) (test : CodeExpr) → Taken blocks i inside → Taken inside s rest
+    → Added steps rest s (code.If test i.text i.second) steps' blocks' → Linked (IfRow (shown_expr test)) steps blocks steps' blocks'
+linked_if steps steps' blocks inside rest blocks' i s test t u a = linked_by steps steps' blocks rest blocks' s (code.If test i.text i.second) a
+    (if_before (shown_expr test) (levels_at steps blocks) (levels_at steps inside) (levels_at steps rest) (level_at steps i) (level_at steps s) (t.first steps) (t.others steps) (u.first steps) (u.others steps))
+
+pub linked_each : (steps steps' : List Step) (blocks inside rest blocks' : List Starts) (i s : Starts) (turn : CodeLoop) → Taken blocks i inside → Taken inside s rest
+    → Added steps rest s (code.Each turn i.text) steps' blocks' → Linked (EachRow (shown_loop turn)) steps blocks steps' blocks'
+linked_each steps steps' blocks inside rest blocks' i s turn t u a = linked_by steps steps' blocks rest blocks' s (code.Each turn i.text) a
+    (each_before (shown_loop turn) (levels_at steps blocks) (levels_at steps inside) (levels_at steps rest) (level_at steps i) (level_at steps s) (t.first steps) (t.others steps) (u.first steps) (u.others steps))
+
+pub linked_both : (steps steps' : List Step) (blocks inside rest blocks' : List Starts) (i s : Starts) → Taken blocks i inside → Taken inside s rest
+    → Added steps rest s (code.Both i.text i.second) steps' blocks' → Linked BothRow steps blocks steps' blocks'
+linked_both steps steps' blocks inside rest blocks' i s t u a = linked_by steps steps' blocks rest blocks' s (code.Both i.text i.second) a
+    (both_before (levels_at steps blocks) (levels_at steps inside) (levels_at steps rest) (level_at steps i) (level_at steps s) (t.first steps) (t.others steps) (u.first steps) (u.others steps))
+
+pub linked_second : (steps : List Step) (blocks rest blocks' : List Starts) (s : Starts) → AllUpTo (length steps) blocks → Taken blocks s rest → blocks' ≡ rest ++ starts 0 s.text ∷ [] → Linked SecondRow steps blocks steps blocks'
+linked_second steps blocks rest blocks' s h t e = subst (λ (os : List Starts). Linked SecondRow steps blocks steps os) (sym e) (record {
+  levels = levels_push steps rest (starts 0 s.text) ∙ cc (text_end steps, t.first steps, t.others steps);
+  up = up_push (length steps) rest (starts 0 s.text) (t.up (length steps) h) (omega arith) (t.text (length steps) h);
+  longer = omega arith;
+  stays = λ p low. refl;
+  fits = λ fields locals ks f g. f;
+})
+
+pub linked_end : (steps : List Step) (blocks blocks' : List Starts) → AllUpTo (length steps) blocks → blocks' ≡ blocks ++ starts 0 0 ∷ [] → Linked EndRow steps blocks steps blocks'
+linked_end steps blocks blocks' h e = subst (λ (os : List Starts). Linked EndRow steps blocks steps os) (sym e) (record {
+  levels = levels_push steps blocks (starts 0 0) ∙ cc (text_end steps);
+  up = up_push (length steps) blocks (starts 0 0) h (omega arith) (omega arith);
+  longer = omega arith;
+  stays = λ p low. refl;
+  fits = λ fields locals ks f g. f;
+})
+
+-- all lines of a handler
+
+-- what lines make of the levels behind them
+abbrev pub onto : List Row → List Level → List Level
+onto [] ls = ls
+onto (r ∷ rs) ls = before r (onto rs ls)
+
+pub onto_none : (rs : List Row) → onto rs [] ≡ levels_of rs
+onto_none [] = refl
+onto_none (r ∷ rs) = ap (before r) (onto_none rs)
+
+onto_last : (rs : List Row) (r : Row) (ls : List Level) → onto (rs ++ r ∷ []) ls ≡ onto rs (before r ls)
+onto_last [] r ls = refl
+onto_last (q ∷ rs) r ls = ap (before q) (onto_last rs r ls)
+
+-- how far the lines of `all` fit that stand in the table
+abbrev pub FitsSoFar : List Row → List Row → List Step → List Step → Type 0
+FitsSoFar all left before now = (fields locals : ℕ) → (ks : List Kind) → steps_fit fields locals ks 0 before ≡ true → list_all (row_fits fields locals ks) all ≡ true
+    → (steps_fit fields locals ks 0 now ≡ true) × (list_all (row_fits fields locals ks) left ≡ true)
+
+shown_last : (all left : List CodeRow) (r : CodeRow) → all ≡ left ++ r ∷ [] → map shown_row all ≡ map shown_row left ++ shown_row r ∷ []
+shown_last all left r e = ap (map shown_row) e ∙ map-append shown_row left (r ∷ [])
+
+pub line_onto : (all left : List CodeRow) (r : CodeRow) (steps now : List Step) (blocks blocks' : List Starts) → all ≡ left ++ r ∷ [] → Linked (shown_row r) steps blocks now blocks'
+    → onto (map shown_row left) (levels_at now blocks') ≡ onto (map shown_row all) (levels_at steps blocks)
+line_onto all left r steps now blocks blocks' e it =
+    ap (onto (map shown_row left)) it.levels
+    ∙ sym (ap (λ (rs : List Row). onto rs (levels_at steps blocks)) (shown_last all left r e) ∙ onto_last (map shown_row left) (shown_row r) (levels_at steps blocks))
+
+pub line_stays : (first steps now : List Step) → length first ≤ length steps → GoesOn first steps → GoesOn steps now → GoesOn first now
+line_stays first steps now h go more = λ p low. more p (omega arith) ∙ go p low
+
+pub line_fits : (whole all left : List CodeRow) (r : CodeRow) (first steps now : List Step) (blocks blocks' : List Starts) → all ≡ left ++ r ∷ [] → Linked (shown_row r) steps blocks now blocks'
+    → FitsSoFar (map shown_row whole) (map shown_row all) first steps → FitsSoFar (map shown_row whole) (map shown_row left) first now
+line_fits whole all left r first steps now blocks blocks' e it go = λ fields locals ks a b.
     let fit = go fields locals ks a b in
-    let p = all_popped (whole_fits fields locals ks) all rest s e fit.1 in
-    (ap (steps_fit fields locals ks 0) f ∙ fits_pushed ss (record { stmt = s; next = next }) fields locals 0 ks fit.0 (omega arith) p.1, p.0)
+    let ok = row_fits fields locals ks in
+    let rows = map shown_row left in
+    let same : list_all ok (map shown_row all) ≡ (list_all ok rows && (ok (shown_row r) && true)) = ap (list_all ok) (shown_last all left r e) ∙ list_all-append ok rows (shown_row r ∷ []) in
+    let p = and_parts (list_all ok rows) (ok (shown_row r) && true) (sym same ∙ fit.1) in
+    (it.fits fields locals ks fit.0 (and_parts (ok (shown_row r)) true p.1).0, p.0)
 
-pub text_end : (ss : List Step) → text_at ss 0 ≡ Stop
-unfolding text_at
-text_end ss = refl
-
-pub none_left : (ss : List Stmt) → length ss ≡ 0 → ss ≡ []
-none_left [] h = refl
-none_left (s ∷ ss) h = absurd (omega arith)
-
--- a row that fits stands before a text that fits
-row_first : (fields locals : ℕ) (ks : List Kind) (r : Statement) (t : Text) → statement_fits fields locals ks r ≡ true → text_fits fields locals ks t ≡ true → text_fits fields locals ks (with_row r t) ≡ true
-row_first fields locals ks (Acts q) t x y = and_from (quiet_fits fields locals q) (text_fits fields locals ks t) x y
-row_first fields locals ks (Asks a) t x y = and_from (asking_fits fields locals ks a) (text_fits fields locals ks t) x y
-
--- a handler's text fits where its rows do
-pub text_of_fits : (fields locals : ℕ) (ks : List Kind) (rows : List Statement) → list_all (statement_fits fields locals ks) rows ≡ true → text_fits fields locals ks (text_of rows) ≡ true
-text_of_fits fields locals ks [] h = refl
-text_of_fits fields locals ks (r ∷ rs) h =
-    let a = and_parts (statement_fits fields locals ks r) (list_all (statement_fits fields locals ks) rs) h in
-    row_first fields locals ks r (text_of rs) a.0 (text_of_fits fields locals ks rs a.1)
-
--- so where its statements do
-pub text_fits_rows : (fields locals : ℕ) (ks : List Kind) (stmts : List Stmt) → list_all (whole_fits fields locals ks) stmts ≡ true → text_fits fields locals ks (text_of (map shown_statement stmts)) ≡ true
-text_fits_rows fields locals ks [] h = refl
-text_fits_rows fields locals ks (s ∷ ss) h =
-    let a = and_parts (whole_fits fields locals ks s) (list_all (whole_fits fields locals ks) ss) h in
-    row_first fields locals ks (shown_statement s) (text_of (map shown_statement ss)) a.0 (text_fits_rows fields locals ks ss a.1)
-
--- what stands at a place of a table fits, behind more steps too
-pub row_linked : (fields locals : ℕ) (ks : List Kind) (stmts : List Stmt) (before after : List Step) (place : ℕ) → list_all (whole_fits fields locals ks) stmts ≡ true → text_at before place ≡ text_of (map shown_statement stmts)
-    → place ≤ length before → GoesOn before after → text_fits fields locals ks (text_at after place) ≡ true
-row_linked fields locals ks stmts before after place h e low go =
-    ap (text_fits fields locals ks) (go place low ∙ e) ∙ text_fits_rows fields locals ks stmts h
-
-pub timer_linked : (locals : ℕ) (ks : List Kind) (has : Bool) (stmts : List Stmt) (after : List Step) (place : Option ℕ) → list_all (whole_fits 0 locals ks) stmts ≡ true → text_some after place ≡ text_if has (map shown_statement stmts)
-    → timer_fits locals ks (text_some after place) ≡ true
-timer_linked locals ks has stmts after place h e = ap (timer_fits locals ks) e ∙ cases has where
-  cases : (b : Bool) → timer_fits locals ks (text_if b (map shown_statement stmts)) ≡ true
-  cases true = text_fits_rows 0 locals ks stmts h
-  cases false = refl
-
--- statements of a timer fit where a row has values
-pub stmts_more : (fields locals : ℕ) (ks : List Kind) (stmts : List Stmt) → list_all (whole_fits 0 locals ks) stmts ≡ true → list_all (whole_fits fields locals ks) stmts ≡ true
-stmts_more fields locals ks [] h = refl
-stmts_more fields locals ks (s ∷ ss) h =
-    let a = and_parts (whole_fits 0 locals ks s) (list_all (whole_fits 0 locals ks) ss) h in
-    and_from (whole_fits fields locals ks s) (list_all (whole_fits fields locals ks) ss) (statement_more 0 fields locals locals ks (shown_statement s) (omega arith) (omega arith) a.0) (stmts_more fields locals ks ss a.1)
+-- the text is what is left of the innermost block
+pub linked_text : (rows : List CodeRow) (left : List CodeRow) (steps : List Step) (blocks rest : List Starts) (s : Starts) → left ≡ []
+    → onto (map shown_row left) (levels_at steps blocks) ≡ levels_of (map shown_row rows) → Taken blocks s rest → text_at steps s.text ≡ text_of (map shown_row rows)
+unfolding text_of
+linked_text rows left steps blocks rest s e h t =
+    let levels : levels_at steps blocks ≡ levels_of (map shown_row rows) = sym (ap (λ (rs : List CodeRow). onto (map shown_row rs) (levels_at steps blocks)) e) ∙ h in
+    ap (λ (l : Level). l.text) (sym (t.first steps)) ∙ ap (λ (ls : List Level). (top ls).text) levels

@@ -6,7 +6,7 @@ use Rattle.ax_text.specs.Exprs.{Leaf}
 use Rattle.ax_expr.specs.declared.tree.Expr.TheVariants as v
 use Rattle.ax_expr.specs.Shown.{shown_expr}
 use Rattle.ax_expr.proofs.ShownLemmas.{shown_leaf}
-use Rattle.ax_lang.specs.Rows.{Statement, HandlerRows, no_rows, rows_at, joined}
+use Rattle.ax_lang.specs.Statements.{Statement, HandlerRows, no_rows, rows_at, joined}
 
 pub leaf_shown : (a : Atom) → shown_expr (v.Leaf a) ≡ Leaf a
 leaf_shown a = shown_leaf a

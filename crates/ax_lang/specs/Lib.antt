@@ -1,7 +1,9 @@
-pub mod Tables
-pub mod Rows
+pub mod Forms
 pub mod Steps
+pub mod Links
 pub mod Shown
-pub mod Sound
+pub mod Rows
+pub mod Clean
+pub mod Blocks
 pub mod Programs
 pub mod Laws

@@ -1,83 +1,85 @@
--- A program, or its first fault: each line is tested against all lines before it.
-use Rattle.std.specs.Prelude.{◌≡◌, ℕ, List, [], ◌∷◌, ◌++◌, Bool, Option, Some, None, if◌then◌else◌, ◌&&◌, not, is_some, Result, Ok, Err}
+-- A program, or its first fault.
+use Rattle.std.specs.Prelude.{◌≡◌, ℕ, List, map, Bool, true, false, Option, Some, None, Result, Ok, Err}
 use Rattle.ax_base.specs.declared.lines.Line.{Line}
-use Rattle.ax_base.specs.Words.{words_of}
-use Rattle.ax_text.specs.Programs.{Program}
-use Rattle.ax_state.specs.Decls.{shown_states}
-use Rattle.ax_syntax.specs.Shapes.{Shape, shape_of}
-use Rattle.ax_lang.specs.declared.tables.Tables.{Tables}
+use Rattle.ax_base.specs.declared.outside.NoMemory.{NoMemory}
+use Rattle.ax_text.specs.declared.vocabulary.Kind.{Kind}
+use Rattle.ax_text.specs.declared.vocabulary.Kind.TheVariants as kind
+use Rattle.ax_text.specs.Texts.{Text}
+use Rattle.ax_text.specs.Programs.{State, Program}
+use Rattle.ax_text.specs.Rows.{Row, text_of}
+use Rattle.ax_syntax.specs.declared.shape.KindWord.{KindWord}
+use Rattle.ax_syntax.specs.declared.shape.KindWord.TheVariants as word
+use Rattle.ax_syntax.specs.Shapes.{Shape}
+use Rattle.ax_rules.specs.declared.kinds.FaultKind.{FaultKind}
+use Rattle.ax_rules.specs.declared.section.SectionEnd.{SectionEnd}
+use Rattle.ax_rules.specs.declared.section.Reading.{Reading as Section}
+use Rattle.ax_rules.specs.declared.section.Reading.TheVariants as section
+use Rattle.ax_rules.specs.declared.tables.DeclaredState.{DeclaredState}
+use Rattle.ax_rules.specs.declared.tables.Tables.{Tables}
+use Rattle.ax_rules.specs.Kinds.{kind_number}
+use Rattle.ax_rules.specs.Taking.{fault_some, behind_some}
+use Rattle.ax_rules.specs.Sections.{shapes_of, reading_of}
 use Rattle.ax_lang.specs.declared.program.Program.{Program as CodeProgram}
-use Rattle.ax_lang.specs.declared.reader.SectionEnd.{SectionEnd}
+use Rattle.ax_lang.specs.declared.step.Row.{Row as CodeRow}
+use Rattle.ax_lang.specs.declared.reader.Handlers.{Handlers}
 use Rattle.ax_lang.specs.declared.reader.ProgFault.{ProgFault}
 use Rattle.ax_lang.specs.declared.reader.ProgFault.TheVariants as fault
-use Rattle.ax_lang.specs.Tables.{fault_by, after, start, fields_or}
-use Rattle.ax_lang.specs.Rows.{HandlerRows, no_rows, joined, rows_by, text_of, text_if}
+use Rattle.ax_lang.specs.Forms.{shown_row}
+use Rattle.ax_lang.specs.Rows.{HandlerRows, row_of, with_row, rows_of}
 use Rattle.ax_lang.specs.Shown.{shown_program}
 
-abbrev pub shape_in : Line → Option Shape
-shape_in l = shape_of (words_of l.text)
+abbrev pub kind_in : KindWord → Kind
+kind_in word.Value = kind.Value
+kind_in word.List = kind.List
+kind_in word.Map = kind.Map
 
--- the first kind of fault of a line
-abbrev pub fault_in : Tables → Option Shape → Option ℕ
-fault_in t None = Some 1
-fault_in t (Some s) = fault_by t s
+abbrev pub state_in : DeclaredState → State
+state_in d = record { name = d.name; kind = kind_in d.kind }
 
-abbrev pub after_in : Tables → Option Shape → Tables
-after_in t None = t
-after_in t (Some s) = after s t
+abbrev pub fields_or : Option ℕ → ℕ
+fields_or None = 0
+fields_or (Some n) = n
 
-abbrev pub rows_in : Tables → Option Shape → HandlerRows
-rows_in t None = no_rows
-rows_in t (Some s) = rows_by (after s t) s
+-- the text of a handler that may be missing
+abbrev pub text_if : Bool → List Row → Option Text
+text_if true rows = Some (text_of rows)
+text_if false rows = None
 
-abbrev pub tables_from : Tables → List Line → Tables
-tables_from t [] = t
-tables_from t (l ∷ ls) = tables_from (after_in t (shape_in l)) ls
-
-abbrev pub rows_from : Tables → List Line → HandlerRows
-rows_from t [] = no_rows
-rows_from t (l ∷ ls) = joined (rows_in t (shape_in l)) (rows_from (after_in t (shape_in l)) ls)
-
--- what lines say together
-unfoldable pub tables_of : List Line → Tables
-tables_of lines = tables_from start lines
-
--- the rows of lines, in order
-unfoldable pub rows_of : List Line → HandlerRows
-rows_of lines = rows_from start lines
+-- the program of these rows, where the tables are those at the end
+unfoldable pub program_in : Tables → HandlerRows → Program
+program_in t rows = record { fields = fields_or t.fields; states = map state_in t.states; row = text_of rows.row; timer = text_if t.timer rows.timer }
 
 pub data Reading : Type 0 where
   Faulty : (line kind : ℕ) → Reading
   Accepted : (program : Program) → Reading
 
-abbrev pub or_fault : Option ℕ → ℕ → Reading → Reading
-or_fault None line go = go
-or_fault (Some kind) line go = Faulty line kind
+abbrev pub said_by : List Shape → Section → Reading
+said_by ls (section.Faulty line kind) = Faulty line (kind_number kind)
+said_by ls (section.Whole tables) = Accepted (program_in tables (rows_of ls))
 
--- nothing is due at the end
-unfoldable pub is_whole : Tables → Bool
-is_whole t = (is_some t.fields && t.row) && not t.inside
-
-unfoldable pub program_in : Tables → HandlerRows → Program
-program_in t rows = record { fields = fields_or t.fields; states = shown_states t.states; row = text_of rows.row; timer = text_if t.timer rows.timer }
-
-unfoldable pub ended : Tables → HandlerRows → SectionEnd → Reading
-ended t rows end = if is_whole t && end.found then Accepted (program_in t rows) else Faulty end.line 10
-
--- the lines before a line, that line and those behind it, and the end of the section
-unfoldable pub read_from : List Line → List Line → SectionEnd → Reading
-read_from before [] end = ended (tables_of before) (rows_of before) end
-read_from before (l ∷ ls) end = or_fault (fault_in (tables_of before) (shape_in l)) l.number (read_from (before ++ l ∷ []) ls end)
-
--- what the lines of a section say
+-- what the lines of a section say: their program, or the first fault
 unfoldable pub program_of : List Line → SectionEnd → Reading
-program_of lines end = read_from [] lines end
+program_of lines end = said_by (shapes_of lines) (reading_of lines end)
 
--- what the reading of a line did
-abbrev pub TakesLine : Line → Tables → Tables → HandlerRows → HandlerRows → Result Unit ProgFault → Type 0
-TakesLine l t t' rows rows' (Ok u) = (fault_in t (shape_in l) ≡ None) × (t' ≡ after_in t (shape_in l)) × (rows' ≡ joined rows (rows_in t (shape_in l)))
-TakesLine l t t' rows rows' (Err (fault.At line kind)) = (line ≡ l.number) × (fault_in t (shape_in l) ≡ Some kind)
-TakesLine l t t' rows rows' (Err fault.NoMemory) = Unit {0}
+-- what the code holds of rows
+
+abbrev pub row_some : Option CodeRow → Option Row
+row_some None = None
+row_some (Some r) = Some (shown_row r)
+
+abbrev pub shown_handlers : Handlers → HandlerRows
+shown_handlers h = record { row = map shown_row h.row.items; timer = map shown_row h.timer.items }
+
+-- the rows behind a line, where the tables are those behind it
+abbrev pub rows_some : Option Shape → Tables → HandlerRows → HandlerRows
+rows_some None t rows = rows
+rows_some (Some s) t rows = with_row t.timer (row_of t s) rows
+
+-- a line has a fault, or was taken
+abbrev pub TakesLine : Option Shape → Tables → Tables → HandlerRows → HandlerRows → Result (Option FaultKind) NoMemory → Type 0
+TakesLine s t t' rows rows' (Ok None) = (fault_some t s ≡ None) × (t' ≡ behind_some s t) × (rows' ≡ rows_some s t' rows)
+TakesLine s t t' rows rows' (Ok (Some kind)) = fault_some t s ≡ Some kind
+TakesLine s t t' rows rows' (Err e) = Unit {0}
 
 abbrev pub IsProgram : Reading → CodeProgram → Type 0
 IsProgram (Faulty line kind) p = ⊥

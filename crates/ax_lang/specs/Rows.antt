@@ -1,59 +1,27 @@
--- Lines of a handler whose names are numbers, and the text that they make.
-use Rattle.std.specs.Prelude.{ℕ, ℤ, ◌+◌, ◌-◌, List, [], ◌∷◌, ◌++◌, map, Bool, true, false, Option, Some, None, if◌then◌else◌}
+-- Lines of a handler whose names are numbers.
+use Rattle.std.specs.Prelude.{ℕ, ℤ, ◌-◌, List, [], ◌∷◌, ◌++◌, map, Bool, true, false, Option, Some, None, if◌then◌else◌}
 use lib.Chars.{codes}
 use Rattle.ax_base.specs.Numbers.{number_of}
 use Rattle.ax_text.specs.declared.vocabulary.Op.{Op}
 use Rattle.ax_text.specs.declared.vocabulary.Atom.{Atom}
 use Rattle.ax_text.specs.declared.vocabulary.Atom.TheVariants as atom
-use Rattle.ax_text.specs.declared.vocabulary.Kind.{Kind}
-use Rattle.ax_text.specs.Exprs.{Expr, Leaf}
-use Rattle.ax_text.specs.Texts.{Quiet, Asking, Text, Stop, Act, Ask}
-use Rattle.ax_text.specs.Texts as text
-use Rattle.ax_text.specs.Valid.{quiet_fits, asking_fits}
 use Rattle.ax_text.specs.declared.vocabulary.Keyword.{Keyword}
 use Rattle.ax_text.specs.declared.vocabulary.Keyword.TheVariants as k
+use Rattle.ax_text.specs.Exprs.{Expr, Leaf}
+use Rattle.ax_text.specs.Texts.{Asking, Items, Entries}
+use Rattle.ax_text.specs.Texts as text
+use Rattle.ax_text.specs.Rows.{Row, ActRow, AskRow, IfRow, EachRow, BothRow, SecondRow, EndRow}
+use Rattle.ax_syntax.specs.declared.shape.KindWord.{KindWord}
+use Rattle.ax_syntax.specs.declared.shape.KindWord.TheVariants as kind
 use Rattle.ax_syntax.specs.Words.{Word, same_word, keyword_of, field_number, sign_of}
-use Rattle.ax_syntax.specs.Shapes.{Shape, Get, Put, Emit, Timer, Untimer, parts_of}
+use Rattle.ax_syntax.specs.Shapes.{Shape, End, Let, Get, GetAt, Has, Empty, Put, Add, Remove, Clear, If, Else, Each, EachPair, Both, With, Emit, Timer, Untimer, parts_of}
 use Rattle.ax_expr.specs.declared.tree.Token.{Token}
 use Rattle.ax_expr.specs.declared.tree.Token.TheVariants as token
 use Rattle.ax_expr.specs.Reading.{tree_of}
-use Rattle.ax_lang.specs.declared.tables.Tables.{Tables}
-use Rattle.ax_lang.specs.Tables.{state_names}
-
-pub data Statement : Type 0 where
-  Acts : (quiet : Quiet) → Statement
-  Asks : (asking : Asking) → Statement
-
--- what a statement speaks of exists, where a row has so many values and there are so many local names and these states
-abbrev pub statement_fits : ℕ → ℕ → List Kind → Statement → Bool
-statement_fits fields locals kinds (Acts quiet) = quiet_fits fields locals quiet
-statement_fits fields locals kinds (Asks asking) = asking_fits fields locals kinds asking
-
--- the rows of the two handlers
-pub record HandlerRows : Type 0 where
-  pub row : List Statement
-  pub timer : List Statement
-
-abbrev pub no_rows : HandlerRows
-no_rows = record { row = []; timer = [] }
-
--- the rows of one handler: of `on timer`, or of `on row`
-abbrev pub rows_at : Bool → List Statement → HandlerRows
-rows_at true rows = record { row = []; timer = rows }
-rows_at false rows = record { row = rows; timer = [] }
-
--- later rows stand behind earlier ones, in each handler
-abbrev pub joined : HandlerRows → HandlerRows → HandlerRows
-joined a b = record { row = a.row ++ b.row; timer = a.timer ++ b.timer }
-
-abbrev pub row_list : Option Statement → List Statement
-row_list None = []
-row_list (Some r) = r ∷ []
-
--- the place of a word, where n stand before the list
-abbrev pub index_of : ℕ → List Word → Word → Option ℕ
-index_of n [] w = None
-index_of n (x ∷ xs) w = if same_word x w then Some n else index_of (n + 1) xs w
+use Rattle.ax_rules.specs.declared.tables.Tables.{Tables}
+use Rattle.ax_rules.specs.Parts.{index_of}
+use Rattle.ax_rules.specs.Lines.{names_of, tables_of}
+use Rattle.ax_rules.specs.Faults.{is_inside, kind_of}
 
 abbrev pub place_or : Option ℕ → ℕ
 place_or None = 0
@@ -98,29 +66,50 @@ tree_or (Some t) = t
 unfoldable pub tree_in : List Word → List Word → Expr
 tree_in locals ws = tree_or (tree_of (map (token_of locals) ws))
 
--- the row of a line, where the tables are those behind it
-unfoldable pub row_of : Tables → Shape → Option Statement
-row_of t (Get name state missing) = Some (Asks (text.Get (place_in t.locals name) (place_in (state_names t.states) state) (tree_in t.locals missing)))
-row_of t (Put state values) = Some (Asks (text.Put (place_in (state_names t.states) state) (tree_in t.locals values)))
-row_of t (Emit values) = Some (Acts (text.Emit (map (tree_in t.locals) (parts_of values))))
-row_of t (Timer time) = Some (Acts (text.Timer (tree_in t.locals time)))
-row_of t (Untimer time) = Some (Acts (text.Untimer (tree_in t.locals time)))
+-- a value is put to one number, a map at a place to a number, and a list to all
+abbrev pub put_by : Option KindWord → ℕ → List Expr → Asking
+put_by (Some kind.Value) state (e ∷ es) = text.Put state e
+put_by (Some kind.Map) state (e ∷ f ∷ es) = text.PutAt state e f
+put_by _ state es = text.PutAll state es
+
+-- the row of a line, where the tables are those behind it; the `end` of a handler has none
+unfoldable pub row_of : Tables → Shape → Option Row
+row_of t (Let name value) = Some (ActRow (text.Let (place_in t.locals name) (tree_in t.locals value)))
+row_of t (Get name state missing) = Some (AskRow (text.Get (place_in t.locals name) (place_in (names_of t.states) state) (tree_in t.locals missing)))
+row_of t (GetAt name state at missing) = Some (AskRow (text.GetAt (place_in t.locals name) (place_in (names_of t.states) state) (tree_in t.locals at) (tree_in t.locals missing)))
+row_of t (Has name state at) = Some (AskRow (text.Has (place_in t.locals name) (place_in (names_of t.states) state) (tree_in t.locals at)))
+row_of t (Empty name state) = Some (AskRow (text.Empty (place_in t.locals name) (place_in (names_of t.states) state)))
+row_of t (Put state values) = Some (AskRow (put_by (kind_of t.states state) (place_in (names_of t.states) state) (map (tree_in t.locals) (parts_of values))))
+row_of t (Add state value) = Some (AskRow (text.Add (place_in (names_of t.states) state) (tree_in t.locals value)))
+row_of t (Remove state at) = Some (AskRow (text.Remove (place_in (names_of t.states) state) (tree_in t.locals at)))
+row_of t (Clear state) = Some (AskRow (text.Clear (place_in (names_of t.states) state)))
+row_of t (If test) = Some (IfRow (tree_in t.locals test))
+row_of t (Each name state) = Some (EachRow (Items (place_in t.locals name) (place_in (names_of t.states) state)))
+row_of t (EachPair key number state) = Some (EachRow (Entries (place_in t.locals key) (place_in t.locals number) (place_in (names_of t.states) state)))
+row_of t Both = Some BothRow
+row_of t Else = Some SecondRow
+row_of t With = Some SecondRow
+row_of t End = if is_inside t then Some EndRow else None
+row_of t (Emit values) = Some (ActRow (text.Emit (map (tree_in t.locals) (parts_of values))))
+row_of t (Timer time) = Some (ActRow (text.Timer (tree_in t.locals time)))
+row_of t (Untimer time) = Some (ActRow (text.Untimer (tree_in t.locals time)))
 row_of t _ = None
 
--- the row of a line, in its handler
-abbrev pub rows_by : Tables → Shape → HandlerRows
-rows_by t s = rows_at t.timer (row_list (row_of t s))
+-- the rows of the two handlers, in order
+pub record HandlerRows : Type 0 where
+  pub row : List Row
+  pub timer : List Row
 
--- a row stands before a text
-abbrev pub with_row : Statement → Text → Text
-with_row (Acts q) rest = Act q rest
-with_row (Asks a) rest = Ask a rest
+abbrev pub no_rows : HandlerRows
+no_rows = record { row = []; timer = [] }
 
-abbrev pub text_of : List Statement → Text
-text_of [] = Stop
-text_of (r ∷ rs) = with_row r (text_of rs)
+-- a row, if there is one, goes last: into `on timer`, or into `on row`
+abbrev pub with_row : Bool → Option Row → HandlerRows → HandlerRows
+with_row timer None rows = rows
+with_row true (Some r) rows = record { row = rows.row; timer = rows.timer ++ r ∷ [] }
+with_row false (Some r) rows = record { row = rows.row ++ r ∷ []; timer = rows.timer }
 
--- the text of a handler that may be missing
-abbrev pub text_if : Bool → List Statement → Option Text
-text_if true rows = Some (text_of rows)
-text_if false rows = None
+-- the rows of lines, of which the latest comes first
+abbrev pub rows_of : List Shape → HandlerRows
+rows_of [] = no_rows
+rows_of (s ∷ ls) = with_row (tables_of (s ∷ ls)).timer (row_of (tables_of (s ∷ ls)) s) (rows_of ls)

@@ -6,8 +6,8 @@ use Rattle.ax_text.specs.Programs.{Program, kinds_of}
 use Rattle.ax_state.specs.Decls.{shown_states}
 use Rattle.ax_lang.specs.declared.step.Step.{Step}
 use Rattle.ax_lang.specs.declared.program.Program.{Program as CodeProgram}
-use Rattle.ax_lang.specs.Rows.{with_row}
-use Rattle.ax_lang.specs.Steps.{shown_statement, text_at, text_some, stmt_fits, whole_fits}
+use Rattle.ax_lang.specs.Forms.{form_of, text_with, top_of}
+use Rattle.ax_lang.specs.Steps.{text_at, text_some, stmt_fits}
 
 -- the text from a place of a program on
 unfoldable pub text_from : CodeProgram → ℕ → Text
@@ -25,8 +25,7 @@ shown_kinds p = kinds_of (shown_program p).states
 unfoldable pub locals_of : CodeProgram → ℕ
 locals_of p = p.locals
 
--- what stands at a place: nothing, or a statement that fits and leads to a lower place
+-- what stands at a place: nothing, or a statement that fits and names lower places alone
 abbrev pub StandsAt : CodeProgram → ℕ → Option Step → Type 0
 StandsAt p place None = text_from p place ≡ Stop
-StandsAt p place (Some s) = (text_from p place ≡ with_row (shown_statement s.stmt) (text_from p s.next)) × (s.next < place) × (stmt_fits (locals_of p) (shown_kinds p) s.stmt ≡ true)
-    × (whole_fits (shown_program p).fields (locals_of p) (shown_kinds p) s.stmt ≡ true)
+StandsAt p place (Some s) = (text_from p place ≡ text_with (text_from p) (form_of s.stmt) s.next) × (top_of s < place) × (stmt_fits (shown_program p).fields (locals_of p) (shown_kinds p) s.stmt ≡ true)

@@ -1,71 +1,66 @@
 -- What a table of steps stands for. A place counts from 1, and 0 is the end.
-use Rattle.std.specs.Prelude.{◌≡◌, ◌≤◌, ℕ, zero, suc, ◌+◌, List, [], ◌∷◌, ◌++◌, map, length, Bool, true, ◌&&◌, Option, Some, None, nat_lt, nat_le, slice_index_or}
-use Rattle.std.specs.List.{list_all}
+use Rattle.std.specs.Prelude.{◌≡◌, ◌≤◌, ℕ, zero, suc, max, List, [], ◌∷◌, ◌++◌, map, length, Bool, true, ◌&&◌, Option, Some, None, Vec, nat_le, slice_index_or}
 use Rattle.ax_text.specs.declared.vocabulary.Kind.{Kind}
-use Rattle.ax_text.specs.declared.vocabulary.Kind.TheVariants as kind
 use Rattle.ax_text.specs.Texts.{Text, Stop}
-use Rattle.ax_text.specs.Texts as text
-use Rattle.ax_state.specs.Fits.{has_kind}
-use Rattle.ax_expr.specs.Shown.{shown_expr}
+use Rattle.ax_text.specs.Rows.{Row, ActRow, AskRow, IfRow, EachRow, BothRow, SecondRow, EndRow, Body, wide, widened_by, now_of, text_of}
+use Rattle.ax_text.specs.Valid.{expr_fits, quiet_fits, asking_fits, loop_fits}
 use Rattle.ax_lang.specs.declared.step.Stmt.{Stmt}
-use Rattle.ax_lang.specs.declared.step.Stmt.TheVariants as code
 use Rattle.ax_lang.specs.declared.step.Step.{Step}
-use Rattle.ax_lang.specs.declared.step.Handlers.{Handlers}
-use Rattle.ax_lang.specs.Rows.{Statement, Acts, Asks, HandlerRows, with_row, statement_fits}
+use Rattle.ax_lang.specs.declared.step.Row.{Row as CodeRow}
+use Rattle.std.specs.declared.alloc.Global.{Global}
+use Rattle.ax_lang.specs.Forms.{form_of, text_with, top_of, row_in, shown_row}
 
-abbrev pub shown_statement : Stmt → Statement
-shown_statement (code.Get name state missing) = Asks (text.Get name state (shown_expr missing))
-shown_statement (code.Put state number) = Asks (text.Put state (shown_expr number))
-shown_statement (code.Emit values) = Acts (text.Emit (map shown_expr values))
-shown_statement (code.SetTimer time) = Acts (text.Timer (shown_expr time))
-shown_statement (code.UnsetTimer time) = Acts (text.Untimer (shown_expr time))
+-- what a line speaks of exists, where a row has so many values and there are so many local names and states of these kinds
+abbrev pub row_fits : ℕ → ℕ → List Kind → Row → Bool
+row_fits fields locals kinds (ActRow q) = quiet_fits fields locals q
+row_fits fields locals kinds (AskRow a) = asking_fits fields locals kinds a
+row_fits fields locals kinds (IfRow e) = expr_fits fields locals e
+row_fits fields locals kinds (EachRow l) = loop_fits locals kinds l
+row_fits fields locals kinds BothRow = true
+row_fits fields locals kinds SecondRow = true
+row_fits fields locals kinds EndRow = true
 
--- the rows of the handlers' statements
-abbrev pub shown_handlers : Handlers → HandlerRows
-shown_handlers h = record { row = map shown_statement h.row.items; timer = map shown_statement h.timer.items }
+-- so does what a statement speaks of
+abbrev pub stmt_fits : ℕ → ℕ → List Kind → Stmt → Bool
+stmt_fits fields locals kinds s = row_fits fields locals kinds (row_in (form_of s))
 
-abbrev pub row_some : Option Stmt → Option Statement
-row_some None = None
-row_some (Some stmt) = Some (shown_statement stmt)
+-- the lines of a handler that may be missing
+abbrev pub rows_some : Option (Vec CodeRow Global) → List Row
+rows_some None = []
+rows_some (Some rows) = map shown_row rows.items
+
+-- the text of a handler that may be missing
+abbrev pub text_if : Option (Vec CodeRow Global) → Option Text
+text_if None = None
+text_if (Some rows) = Some (text_of (map shown_row rows.items))
+
+-- how many requests the lines of a handler may have out at once, counted line by line
+abbrev pub rows_width : List Row → ℕ
+rows_width rows = now_of (widened_by rows (wide Body 0 0 ∷ []))
 
 abbrev pub text_in : List Text → ℕ → Text
 text_in texts zero = Stop
 text_in texts (suc i) = slice_index_or texts i Stop
 
--- the texts of all places, from the lowest on; each step leads to a lower place
+-- the texts of all places, from the lowest on
 abbrev pub texts_from : List Text → List Step → List Text
 texts_from texts [] = texts
-texts_from texts (s ∷ ss) = texts_from (texts ++ with_row (shown_statement s.stmt) (text_in texts s.next) ∷ []) ss
+texts_from texts (s ∷ ss) = texts_from (texts ++ text_with (text_in texts) (form_of s.stmt) s.next ∷ []) ss
 
+-- the text from a place of a table on
 unfoldable pub text_at : List Step → ℕ → Text
 text_at steps place = text_in (texts_from [] steps) place
 
--- the text from a place of a table on, where there is one
+-- the same, where there is a place
 abbrev pub text_some : List Step → Option ℕ → Option Text
 text_some steps None = None
 text_some steps (Some place) = Some (text_at steps place)
 
+-- each statement fits, and its step names lower places alone; n steps stand before
+abbrev pub steps_fit : ℕ → ℕ → List Kind → ℕ → List Step → Bool
+steps_fit fields locals kinds n [] = true
+steps_fit fields locals kinds n (s ∷ ss) = (nat_le (top_of s) n && stmt_fits fields locals kinds s.stmt) && steps_fit fields locals kinds (suc n) ss
+
 -- a table goes on: what stands at its places stays
 abbrev pub GoesOn : List Step → List Step → Type 0
 GoesOn before after = (place : ℕ) → place ≤ length before → text_at after place ≡ text_at before place
-
--- a statement's local name and state exist, and the state has the statement's kind
-abbrev pub stmt_fits : ℕ → List Kind → Stmt → Bool
-stmt_fits locals kinds (code.Get name state missing) = nat_lt name locals && has_kind kinds state kind.Value
-stmt_fits locals kinds (code.Put state number) = has_kind kinds state kind.Value
-stmt_fits locals kinds (code.Emit values) = true
-stmt_fits locals kinds (code.SetTimer time) = true
-stmt_fits locals kinds (code.UnsetTimer time) = true
-
--- so do the names, values and states of its expressions, where a row has so many values
-abbrev pub whole_fits : ℕ → ℕ → List Kind → Stmt → Bool
-whole_fits fields locals kinds s = statement_fits fields locals kinds (shown_statement s)
-
--- each statement fits, and its step leads to a lower place; n steps stand before
-abbrev pub steps_fit : ℕ → ℕ → List Kind → ℕ → List Step → Bool
-steps_fit fields locals kinds n [] = true
-steps_fit fields locals kinds n (s ∷ ss) = (nat_le s.next n && whole_fits fields locals kinds s.stmt) && steps_fit fields locals kinds (n + 1) ss
-
--- where the table fits and so do these statements, the table with them does
-abbrev pub FitsWith : List Stmt → List Step → List Step → Type 0
-FitsWith stmts before after = (fields locals : ℕ) → (kinds : List Kind) → steps_fit fields locals kinds 0 before ≡ true → list_all (whole_fits fields locals kinds) stmts ≡ true → steps_fit fields locals kinds 0 after ≡ true

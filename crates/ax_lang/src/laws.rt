@@ -1,14 +1,15 @@
 //! Laws of the language, each the contract of an empty function.
-ghost use Rattle.std.specs.Prelude.{◌≡◌, List};
+ghost use Rattle.std.specs.Prelude.{◌≡◌, ◌≤◌, List, true};
 ghost use Rattle.ax_base.specs.declared.lines.Line.{Line};
 ghost use Rattle.ax_syntax.specs.Words.{Word};
-ghost use Rattle.ax_text.specs.Programs.{Program};
+ghost use Rattle.ax_text.specs.Prints.{is_accepted};
+ghost use Rattle.ax_text.specs.Programs.{Program, program_width, text_or_stop};
 ghost use Rattle.ax_text.specs.Valid.{IsValid};
 ghost use Rattle.ax_lang.specs.declared.program.Program.{Program as AnyProgram};
-ghost use Rattle.ax_lang.specs.Shown.{shown_program};
-ghost use Rattle.ax_lang.specs.declared.reader.SectionEnd.{SectionEnd};
-ghost use Rattle.ax_lang.specs.Programs.{Accepted, program_of};
 ghost use Rattle.ax_lang.specs.Laws.{HasTree};
+ghost use Rattle.ax_lang.specs.Programs.{Accepted, program_of};
+ghost use Rattle.ax_lang.specs.Shown.{shown_program};
+ghost use Rattle.ax_rules.specs.declared.section.SectionEnd.{SectionEnd};
 
 /// Every expression that a line may have has a tree.
 #[tactic(auto, using(crate::proofs::TokenLemmas::has_tree))]
@@ -19,6 +20,15 @@ pub fn expression_law()
 /// Every program is valid: everything exists that its statements and their expressions speak of.
 pub fn program_is_valid()
     ensures { (p : AnyProgram) → IsValid (shown_program p) }
+{}
+
+/// Every program is accepted: the arms of each `both` are silent and apart, and at least 1 and at most 16 requests may be out at once.
+#[tactic(auto, using(crate::proofs::ProgramLemmas::row_accepted, crate::proofs::ProgramLemmas::timer_accepted, crate::proofs::ProgramLemmas::some_wide, crate::proofs::ProgramLemmas::few_wide))]
+pub fn program_is_accepted()
+    ensures row { (p : AnyProgram) → is_accepted (shown_program p).row ≡ true }
+    ensures timer { (p : AnyProgram) → is_accepted (text_or_stop (shown_program p).timer) ≡ true }
+    ensures some { (p : AnyProgram) → 1 ≤ program_width (shown_program p) }
+    ensures few { (p : AnyProgram) → program_width (shown_program p) ≤ 16 }
 {}
 
 /// Every program that lines say, as `read_program` reads them, is valid.

@@ -1,18 +1,22 @@
 //! Programs as tables of steps.
-ghost use Rattle.std.specs.Prelude.{◌≡◌, ◌≤◌, ◌++◌, ◌∷◌, [], length, map, true, is_some, slice_get, IfOk, OnOk, None};
+ghost use Rattle.std.specs.Prelude.{◌≡◌, ◌≤◌, ◌∷◌, [], length, max, map, true, is_some, slice_get, IfOk};
 ghost use Rattle.std.specs.List.{list_all};
 ghost use Rattle.std.specs.Option.{option_copied};
-ghost use Rattle.ax_text.specs.Programs.{text_or_stop, program_width};
-ghost use Rattle.ax_state.specs.Decls.{kinds, shown_states};
-ghost use Rattle.ax_lang.specs.Rows.{text_of, text_if};
-ghost use Rattle.ax_lang.specs.Steps.{shown_statement, text_at, text_some, GoesOn, whole_fits, steps_fit, FitsWith};
-ghost use Rattle.ax_lang.specs.Tables.{state_names};
+ghost use Rattle.ax_text.specs.Jobs.{text_for};
 ghost use Rattle.ax_text.specs.Names.{is_name, are_distinct};
-ghost use Rattle.ax_text.specs.Valid.{text_fits, timer_fits};
+ghost use Rattle.ax_text.specs.Prints.{is_accepted};
+ghost use Rattle.ax_text.specs.Programs.{text_or_stop, program_width, width as text_width, width_some};
+ghost use Rattle.ax_text.specs.Rows.{Body, wide, follow, all_ok, text_of};
+ghost use Rattle.ax_text.specs.Valid.{names_of, text_fits, timer_fits};
+ghost use Rattle.ax_state.specs.Decls.{kinds, shown_states};
+ghost use Rattle.ax_lang.specs.Forms.{shown_row};
+ghost use Rattle.ax_lang.specs.Steps.{row_fits, rows_some, rows_width, text_if, text_at, text_some, steps_fit};
 
-use crate::step::{Handlers, Step, Stmt};
+use crate::link::{link, link_some};
+use crate::step::{Row, Step};
 use ax_base::NoMemory;
 use ax_state::Decls;
+use ax_text::Handler;
 use std::alloc::Global;
 
 /// A program that passed the validator: its declarations, and the statements of its handlers as one table of steps.
@@ -21,51 +25,65 @@ pub struct Program {
     fields: u8,
     decls: Decls,
     locals: usize,
+    width: u8,
     steps: Vec<Step>,
     row: usize,
     timer: Option<usize>,
     ghost few_fields: { fields ≤ 16 },
     ghost few_states: { length decls ≤ 64 },
     ghost few_locals: { locals ≤ 256 },
-    ghost named: { list_all is_name (state_names decls) ≡ true },
-    ghost distinct: { are_distinct (state_names decls) ≡ true },
+    ghost named: { list_all is_name (names_of (shown_states decls)) ≡ true },
+    ghost distinct: { are_distinct (names_of (shown_states decls)) ≡ true },
     ghost fits: { steps_fit fields locals (kinds decls) 0 steps.items ≡ true },
-    ghost row_fits: { text_fits fields locals (kinds decls) (text_at steps.items row) ≡ true },
-    ghost timer_fits: { timer_fits locals (kinds decls) (text_some steps.items timer) ≡ true },
+    ghost row_valid: { text_fits fields locals (kinds decls) (text_at steps.items row) ≡ true },
+    ghost timer_valid: { timer_fits locals (kinds decls) (text_some steps.items timer) ≡ true },
+    ghost row_apart: { is_accepted (text_at steps.items row) ≡ true },
+    ghost timer_apart: { is_accepted (text_or_stop (text_some steps.items timer)) ≡ true },
+    ghost counted: { width ≡ max 1 (max (text_width (text_at steps.items row)) (width_some (text_some steps.items timer))) },
+    ghost narrow: { width ≤ 16 },
 }
 
 impl Program {
     ghost use Rattle.ax_lang.specs.Shown.{shown_program, shown_kinds, locals_of, text_from, StandsAt};
 
-    /// The program of these statements; those of `on timer` count where there is one.
+    /// The program of these lines; `width` is how many requests they may have out at once.
     ///
-    /// Conditions: at most 16 values, 64 states and 256 local names; the states' names are names and differ; and what the
-    /// statements and their expressions speak of exists, where those of `on timer` have no values of a row.
-    #[tactic(auto, unfolding(crate::specs::Shown::shown_program), using(crate::proofs::LinkLemmas::stmts_more, crate::proofs::LinkLemmas::row_linked, crate::proofs::LinkLemmas::timer_linked))]
+    /// Conditions: at most 16 values, 64 states and 256 local names; the states' names are names and differ; what the
+    /// lines and their expressions speak of exists, where those of `on timer` have no values of a row; each handler's
+    /// blocks are whole and its arms silent and apart; and `width` is at most 16.
+    #[tactic(auto, unfolding(crate::specs::Shown::shown_program), using(crate::proofs::FitLemmas::rows_more, crate::proofs::ProgramLemmas::row_text, crate::proofs::ProgramLemmas::row_valid, crate::proofs::ProgramLemmas::timer_valid, crate::proofs::ProgramLemmas::row_apart, crate::proofs::ProgramLemmas::timer_apart, crate::proofs::ProgramLemmas::counted))]
     pub(crate) fn new(
         alloc: Global,
         fields: u8,
         decls: Decls,
         locals: usize,
-        handlers: Handlers,
-        has_timer: bool,
+        width: u8,
+        row: Vec<Row>,
+        timer: Option<Vec<Row>>,
     ) -> Result<Program, NoMemory>
         requires fields { fields ≤ 16 }
         requires states { length decls ≤ 64 }
         requires locals { locals ≤ 256 }
-        requires named { list_all is_name (state_names decls) ≡ true }
-        requires distinct { are_distinct (state_names decls) ≡ true }
-        requires row { list_all (whole_fits fields locals (kinds decls)) handlers.row.items ≡ true }
-        requires timer { list_all (whole_fits 0 locals (kinds decls)) handlers.timer.items ≡ true }
-        ensures { IfOk result (λ p. shown_program p ≡ record { fields = fields; states = shown_states decls; row = text_of (map shown_statement handlers.row.items); timer = text_if has_timer (map shown_statement handlers.timer.items) }) }
+        requires named { list_all is_name (names_of (shown_states decls)) ≡ true }
+        requires distinct { are_distinct (names_of (shown_states decls)) ≡ true }
+        requires row { list_all (row_fits fields locals (kinds decls)) (map shown_row row.items) ≡ true }
+        requires row_blocks { follow (map shown_row row.items) (wide Body 0 0 ∷ []) ≡ true }
+        requires row_arms { all_ok (map shown_row row.items) [] ≡ true }
+        requires timer { list_all (row_fits 0 locals (kinds decls)) (rows_some timer) ≡ true }
+        requires timer_blocks { follow (rows_some timer) (wide Body 0 0 ∷ []) ≡ true }
+        requires timer_arms { all_ok (rows_some timer) [] ≡ true }
+        requires width { width ≡ max 1 (max (rows_width (map shown_row row.items)) (rows_width (rows_some timer))) }
+        requires narrow { width ≤ 16 }
+        ensures { IfOk result (λ p. shown_program p ≡ record { fields = fields; states = shown_states decls; row = text_of (map shown_row row.items); timer = text_if timer }) }
     {
         let mut steps = Vec::new(alloc);
-        let row = link(&mut steps, handlers.row)?;
-        let timer = link_if(has_timer, &mut steps, handlers.timer)?;
+        let row = link(alloc, &mut steps, row)?;
+        let timer = link_some(alloc, &mut steps, timer)?;
         Ok(Program {
             fields,
             decls,
             locals,
+            width,
             steps,
             row,
             timer,
@@ -82,7 +100,7 @@ impl Program {
     }
 
     /// The declared states, in order, at most 64.
-    #[tactic(auto, unfolding(crate::specs::Shown::shown_program), using(crate::proofs::StepLemmas::program_kinds))]
+    #[tactic(auto, unfolding(crate::specs::Shown::shown_program), using(crate::proofs::ProgramLemmas::program_kinds))]
     pub fn decls(&self) -> &Decls
         ensures states { shown_states result.now ≡ (shown_program self.now).states }
         ensures kinds { kinds result.now ≡ shown_kinds self.now }
@@ -91,12 +109,14 @@ impl Program {
         &self.decls
     }
 
-    /// How many requests a handler may have out at once: 1, since its statements ask one after another.
-    #[tactic(auto, unfolding(crate::specs::Shown::shown_program), using(crate::proofs::StepLemmas::width_small))]
+    /// How many requests a handler may have out at once, from 1 to 16.
+    #[tactic(auto, unfolding(crate::specs::Shown::shown_program))]
     pub fn width(&self) -> u8
-        ensures { result ≡ program_width (shown_program self.now) }
+        ensures value { result ≡ program_width (shown_program self.now) }
+        ensures some { 1 ≤ result }
+        ensures few { result ≤ 16 }
     {
-        1
+        self.width
     }
 
     /// Whether there is an `on timer`.
@@ -116,22 +136,14 @@ impl Program {
         self.locals
     }
 
-    /// The place where `on row` begins.
-    #[tactic(auto, unfolding(crate::specs::Shown::shown_program, crate::specs::Shown::text_from))]
-    pub fn first(&self) -> usize
-        ensures { text_from self.now result ≡ (shown_program self.now).row }
-    {
-        self.row
-    }
-
-    /// The place where `on timer` begins; the end, 0, where there is none.
+    /// The place where a handler begins; the end, 0, where there is no `on timer`.
     #[tactic(auto, unfolding(crate::specs::Shown::shown_program, crate::specs::Shown::text_from, crate::specs::Steps::text_at))]
-    pub fn timer_first(&self) -> usize
-        ensures { text_from self.now result ≡ text_or_stop (shown_program self.now).timer }
+    pub fn place_of(&self, handler: Handler) -> usize
+        ensures { text_from self.now result ≡ text_for (shown_program self.now) handler }
     {
-        match self.timer {
-            None => 0,
-            Some(place) => place,
+        match handler {
+            Handler::Row => self.row,
+            Handler::Timer => self.timer.unwrap_or(0),
         }
     }
 
@@ -144,46 +156,6 @@ impl Program {
         } else {
             step_at(self.steps.as_slice(), place - 1)
         }
-    }
-}
-
-// A statement goes last into the table, and leads to a place.
-fn push_step(steps: &mut Vec<Step>, stmt: Stmt, next: usize) -> Result<(), NoMemory>
-    ensures { OnOk result (steps.new.items ≡ steps.old.items ++ record { stmt = stmt; next = next } ∷ []) }
-{
-    match steps.push(Step { stmt, next }) {
-        Ok(()) => Ok(()),
-        Err(_) => Err(NoMemory),
-    }
-}
-
-// Puts a handler's statements into the table, from the last one backwards, and gives the place where it begins.
-fn link(steps: &mut Vec<Step>, stmts: Vec<Stmt>) -> Result<usize, NoMemory>
-    ensures text { IfOk result (λ first. text_at steps.new.items first ≡ text_of (map shown_statement stmts.items)) }
-    ensures place { IfOk result (λ first. first ≤ length steps.new.items) }
-    ensures stays { OnOk result (GoesOn steps.old.items steps.new.items) }
-    ensures fits { OnOk result (FitsWith stmts.items steps.old.items steps.new.items) }
-{
-    let mut stmts = stmts;
-    let mut next = 0;
-    while let Some(stmt) = stmts.pop() {
-        push_step(steps, stmt, next)?;
-        next = steps.len();
-    }
-    Ok(next)
-}
-
-// The same for a handler that may be missing.
-fn link_if(has: bool, steps: &mut Vec<Step>, stmts: Vec<Stmt>) -> Result<Option<usize>, NoMemory>
-    ensures text { IfOk result (λ first. text_some steps.new.items first ≡ text_if has (map shown_statement stmts.items)) }
-    ensures stays { OnOk result (GoesOn steps.old.items steps.new.items) }
-    ensures fits { OnOk result (FitsWith stmts.items steps.old.items steps.new.items) }
-{
-    if has {
-        let first = link(steps, stmts)?;
-        Ok(Some(first))
-    } else {
-        Ok(None)
     }
 }
 

@@ -1,37 +1,35 @@
 //! The reader of programs.
-ghost use Rattle.std.specs.Prelude.{◌≡◌, ◌++◌, map, true, OnOk, None, Some};
+ghost use Rattle.std.specs.Prelude.{◌≡◌, ◌≤◌, ◌++◌, ◌∷◌, [], length, map, true, IfOk, OnOk};
 ghost use Rattle.ax_base.specs.Words.{words_of};
+ghost use Rattle.ax_text.specs.Programs.{State};
+ghost use Rattle.ax_state.specs.Decls.{shown_states};
 ghost use Rattle.ax_syntax.specs.Shapes.{shown_shape, shape_of};
-ghost use Rattle.ax_lang.specs.Tables.{after, fault_by};
-ghost use Rattle.ax_lang.specs.Rows.{HandlerRows, joined, row_list, rows_at, rows_by};
-ghost use Rattle.ax_lang.specs.Steps.{shown_statement, row_some, shown_handlers};
-ghost use Rattle.ax_lang.specs.Sound.{Sound};
-ghost use Rattle.ax_lang.specs.Programs.{ended, program_in, is_whole, program_of, TakesLine, ReadsProgram};
+ghost use Rattle.ax_rules.specs.Sections.{shape_in, is_whole};
+ghost use Rattle.ax_lang.specs.Rows.{with_row};
+ghost use Rattle.ax_lang.specs.Clean.{AreClean};
+ghost use Rattle.ax_lang.specs.Forms.{shown_row};
+ghost use Rattle.ax_lang.specs.Shown.{shown_program};
+ghost use Rattle.ax_lang.specs.Programs.{kind_in, state_in, row_some, shown_handlers, program_in, program_of, TakesLine, ReadsProgram};
 
 use crate::program::Program;
-use crate::rows::stmt_of;
-use crate::step::{Handlers, Stmt};
-use crate::tables::Tables;
-use ax_base::{Line, NoMemory};
-use ax_syntax::Shape;
+use crate::rows::row_of;
+use crate::step::Row;
+use ax_base::{Duplicate, Line, ListOf, NoMemory};
+use ax_rules::{DeclaredState, FaultKind, Tables};
+use ax_state::{Decl, Decls};
+use ax_syntax::KindWord;
 use ax_syntax::shape::shape_of;
 use ax_syntax::words::words;
+use ax_text::Kind;
 use std::alloc::Global;
 use thiserror::Error;
 
-/// Where the program section ended.
-#[derive(Clone, Copy, Debug, PartialEq, Eq)]
-pub struct SectionEnd {
-    /// The line of `%%`, or one past the last line where there is none.
-    pub line: u64,
-    /// Whether there was a line of `%%`.
-    pub found: bool,
-}
+pub use ax_rules::SectionEnd;
 
 /// Why there is no program.
 #[derive(Clone, Copy, Debug, PartialEq, Eq, Error)]
 pub enum ProgFault {
-    /// The first fault: the least line that has one, and its first kind there, by number.
+    /// The first fault: the least line that has one, and its first kind there, by its number from 1 to 10.
     #[error("line {line} of the program has a fault of kind {kind}")]
     At { line: u64, kind: u8 },
     /// Memory was short.
@@ -39,107 +37,108 @@ pub enum ProgFault {
     NoMemory,
 }
 
-// A statement, if there is one, goes last.
-fn push_some(stmts: &mut Vec<Stmt>, stmt: Option<Stmt>) -> Result<(), NoMemory>
-    ensures { OnOk result (map shown_statement stmts.new.items ≡ map shown_statement stmts.old.items ++ row_list (row_some stmt)) }
+/// The lines of the two handlers, each in order.
+#[derive(Drop)]
+pub(crate) struct Handlers {
+    /// Those of `on row`.
+    row: Vec<Row>,
+    /// Those of `on timer`.
+    timer: Vec<Row>,
+}
+
+fn push(rows: &mut Vec<Row>, row: Row) -> Result<(), NoMemory>
+    ensures { OnOk result (map shown_row rows.new.items ≡ map shown_row rows.old.items ++ shown_row row ∷ []) }
 {
-    let Some(stmt) = stmt else {
-        return Ok(());
-    };
-    match stmts.push(stmt) {
+    match rows.push(row) {
         Ok(()) => Ok(()),
         Err(_) => Err(NoMemory),
     }
 }
 
 impl Handlers {
-    // A statement, if there is one, goes last into a handler.
-    fn push_some(&mut self, timer: bool, stmt: Option<Stmt>) -> Result<(), NoMemory>
-        ensures { OnOk result (shown_handlers self.new ≡ joined (shown_handlers self.old) (rows_at timer (row_list (row_some stmt)))) }
+    // A row, if there is one, goes last into a handler.
+    fn push_some(&mut self, timer: bool, row: Option<Row>) -> Result<(), NoMemory>
+        ensures { OnOk result (shown_handlers self.new ≡ with_row timer (row_some row) (shown_handlers self.old)) }
     {
-        if timer {
-            push_some(&mut self.timer, stmt)
-        } else {
-            push_some(&mut self.row, stmt)
+        match row {
+            None => Ok(()),
+            Some(row) => {
+                if timer {
+                    push(&mut self.timer, row)
+                } else {
+                    push(&mut self.row, row)
+                }
+            }
         }
     }
 }
 
-// Takes a line of this shape, which has no fault.
-fn take_shape(
-    alloc: Global,
-    tables: &mut Tables,
-    handlers: &mut Handlers,
-    shape: &Shape,
-) -> Result<(), NoMemory>
-    requires sound { Sound tables.old (shown_handlers handlers.old) }
-    requires no_fault { fault_by tables.old (shown_shape shape.now) ≡ None }
-    ensures tables { OnOk result (tables.new ≡ after (shown_shape shape.now) tables.old) }
-    ensures rows { OnOk result (shown_handlers handlers.new ≡ joined (shown_handlers handlers.old) (rows_by (after (shown_shape shape.now) tables.old) (shown_shape shape.now))) }
-{
-    tables.take(alloc, shape)?;
-    let stmt = stmt_of(alloc, tables, shape)?;
-    handlers.push_some(tables.timer, stmt)
-}
-
-// Takes a line, or tells its fault.
+// Takes a line, or tells its first kind of fault.
 fn take_line(
     alloc: Global,
     tables: &mut Tables,
     handlers: &mut Handlers,
     line: &Line,
-) -> Result<(), ProgFault>
-    requires { Sound tables.old (shown_handlers handlers.old) }
-    ensures { TakesLine line.now tables.old tables.new (shown_handlers handlers.old) (shown_handlers handlers.new) result }
+) -> Result<Option<FaultKind>, NoMemory>
+    requires { length tables.old.states ≤ 64 }
+    ensures { TakesLine (shape_in line.now) tables.old tables.new (shown_handlers handlers.old) (shown_handlers handlers.new) result }
 {
-    let number = line.number;
-    let Ok(words) = words(alloc, line.text.as_slice()) else {
-        return Err(ProgFault::NoMemory);
-    };
+    let words = words(alloc, line.text.as_slice())?;
     let Some(shape) = shape_of(words.as_slice()) else {
-        return Err(ProgFault::At {
-            line: number,
-            kind: 1,
-        });
+        return Ok(Some(FaultKind::Word));
     };
-    if let Some(kind) = tables.fault_by(&shape) {
-        return Err(ProgFault::At { line: number, kind });
+    if let Some(kind) = tables.take_line(alloc, &shape)? {
+        return Ok(Some(kind));
     }
-    match take_shape(alloc, tables, handlers, &shape) {
-        Ok(()) => Ok(()),
-        Err(NoMemory) => Err(ProgFault::NoMemory),
+    let row = row_of(alloc, tables, &shape)?;
+    handlers.push_some(tables.timer, row)?;
+    Ok(None)
+}
+
+fn kind_in(kind: KindWord) -> Kind
+    ensures { result ≡ kind_in kind }
+{
+    match kind {
+        KindWord::Value => Kind::Value,
+        KindWord::List => Kind::List,
+        KindWord::Map => Kind::Map,
     }
 }
 
-// The end of the section.
-#[tactic(auto, unfolding(crate::specs::Programs::is_whole, crate::specs::Programs::program_in, crate::specs::Programs::ended))]
-fn finish(
-    alloc: Global,
-    tables: Tables,
-    handlers: Handlers,
-    end: SectionEnd,
-) -> Result<Program, ProgFault>
-    requires { Sound tables (shown_handlers handlers) }
-    ensures { ReadsProgram (ended tables (shown_handlers handlers) end) result }
+// The declared states, as programs have them.
+fn decls_of(alloc: Global, states: &[DeclaredState]) -> Result<Decls, NoMemory>
+    ensures { IfOk result (λ decls. shown_states decls ≡ map state_in states.now) }
 {
-    match tables.fields {
-        Some(fields) if tables.row && !tables.inside && end.found => {
-            let locals = tables.most_locals();
-            match Program::new(alloc, fields, tables.states, locals, handlers, tables.timer) {
-                Ok(program) => Ok(program),
-                Err(NoMemory) => Err(ProgFault::NoMemory),
-            }
-        }
-        _ => Err(ProgFault::At {
-            line: end.line,
-            kind: 10,
-        }),
+    let mut decls = ListOf::new(alloc);
+    for state in states {
+        let name = state.name.copy(alloc)?;
+        let kind = kind_in(state.kind);
+        decls.push(Decl { name, kind })?;
     }
+    Ok(decls)
+}
+
+// The program of a section's lines, none of which has a fault.
+#[tactic(auto, unfolding(crate::specs::Programs::program_in))]
+fn finish(alloc: Global, tables: Tables, handlers: Handlers) -> Result<Program, NoMemory>
+    requires clean { AreClean tables (shown_handlers handlers) }
+    requires whole { is_whole tables ≡ true }
+    ensures { IfOk result (λ p. shown_program p ≡ program_in tables (shown_handlers handlers)) }
+{
+    let decls = decls_of(alloc, tables.states.as_slice())?;
+    let fields = tables.fields.unwrap_or(0);
+    let width = tables.widest.max(1) as u8;
+    let timer = if tables.timer {
+        Some(handlers.timer)
+    } else {
+        None
+    };
+    Program::new(alloc, fields, decls, tables.most, width, handlers.row, timer)
 }
 
 /// The program of a section's lines, or its first fault: each line is tested against all lines before it, for one kind of
 /// fault after another, and the least line that has a fault is told with its first kind there. Where no line has one,
-/// what is due at the end is tested: `input` and `on row` must have come, no handler may be open, and the section must have
+/// what is due at the end is tested: `input` and `on row` must have come, no block may be open, and the section must have
 /// ended with a line of `%%`; else the fault is of kind 10, at the line of the end.
 ///
 /// `lines` are those before the end, in order, without blank lines and comments. At `NoMemory` nothing is kept.
@@ -152,9 +151,25 @@ pub fn read_program(alloc: Global, lines: &[Line], end: SectionEnd) -> Result<Pr
         timer: Vec::new(alloc),
     };
     for line in lines {
-        if let Err(fault) = take_line(alloc, &mut tables, &mut handlers, line) {
-            return Err(fault);
+        match take_line(alloc, &mut tables, &mut handlers, line) {
+            Ok(None) => {}
+            Ok(Some(kind)) => {
+                return Err(ProgFault::At {
+                    line: line.number,
+                    kind: kind.number(),
+                });
+            }
+            Err(NoMemory) => return Err(ProgFault::NoMemory),
         }
     }
-    finish(alloc, tables, handlers, end)
+    if !(tables.is_whole() && end.found) {
+        return Err(ProgFault::At {
+            line: end.line,
+            kind: FaultKind::NoEnd.number(),
+        });
+    }
+    match finish(alloc, tables, handlers) {
+        Ok(program) => Ok(program),
+        Err(NoMemory) => Err(ProgFault::NoMemory),
+    }
 }

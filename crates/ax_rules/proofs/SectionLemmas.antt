@@ -12,16 +12,8 @@ use Rattle.ax_rules.specs.declared.section.Reading.TheVariants as reading
 use Rattle.ax_rules.specs.Lines.{tables_of}
 use Rattle.ax_rules.specs.Faults.{fault_by}
 use Rattle.ax_rules.specs.Taking.{fault_some, behind_some, Steps}
-use Rattle.ax_rules.specs.Sections.{shape_in, fault_at, with_line, or_fault, is_whole, ended, read_from, reading_of}
+use Rattle.ax_rules.specs.Sections.{shape_in, fault_at, with_line, shapes_from, shapes_of, or_fault, is_whole, ended, read_from, reading_of}
 use Rattle.ax_rules.proofs.FaultLemmas.{behind_line}
-
--- the shapes of lines, the latest first
-abbrev shapes_from : List Shape → List Line → List Shape
-shapes_from before [] = before
-shapes_from before (l ∷ ls) = shapes_from (with_line (shape_in l) before) ls
-
-abbrev pub shapes_of : List Line → List Shape
-shapes_of lines = shapes_from [] lines
 
 shapes_last : (ls : List Line) (before : List Shape) (l : Line) → shapes_from before (ls ++ l ∷ []) ≡ with_line (shape_in l) (shapes_from before ls)
 shapes_last [] before l = refl

@@ -1,5 +1,5 @@
 use Rattle.std.proofs.Common.{◌≡◌, drop}
-use Rattle.ax_lang.specs.Rows.{index_of}
+use Rattle.ax_rules.specs.Parts.{index_of}
 use Rattle.ax_lang.proofs.rows.place_in.Given as goal
 
 abbrev pub invariant-loop-i : goal.invariant-loop-i

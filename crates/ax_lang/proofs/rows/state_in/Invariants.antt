@@ -1,6 +1,6 @@
 use Rattle.std.proofs.Common.{◌≡◌, drop}
 use Rattle.ax_lang.specs.Tables.{state_names}
-use Rattle.ax_lang.specs.Rows.{index_of}
+use Rattle.ax_rules.specs.Parts.{index_of}
 use Rattle.ax_lang.proofs.rows.state_in.Given as goal
 
 abbrev pub invariant-loop-i : goal.invariant-loop-i
