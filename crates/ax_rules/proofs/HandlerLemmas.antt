@@ -1,24 +1,24 @@
 -- The rows of a section's handlers, line by line.
-use Rattle.std.proofs.Common.{◌≡◌, ◌∙◌, ℕ, ◌+◌, ◌≤◌, max, length, List, [], ◌∷◌, ◌++◌, map, refl, sym, ap, ap₂, subst, Bool, true, false, not, ◌&&◌, ◌||◌, nat_lt, nat_eq, Option, Some, None, is_some, if◌then◌else◌, arith}
-use Rattle.std.specs.List.{list_any}
-use Rattle.std.proofs.lemmas.Bool.{and_parts, and_from, true≢false, false≢true, not-false, not-true}
+use Rattle.std.proofs.Common.{◌≡◌, ◌∙◌, ℕ, ◌≤◌, max, length, List, [], ◌∷◌, ◌++◌, map, refl, sym, ap, subst, Bool, true, false, not, ◌&&◌, nat_lt, nat_eq, Option, Some, None, is_some, if◌then◌else◌, arith}
+use Rattle.std.proofs.lemmas.Bool.{and_parts, true≢false, false≢true, not-false}
 use Rattle.std.proofs.lemmas.Bool.Decides.{nat_tests}
-use Rattle.ax_text.specs.Rows.{Row, ActRow, AskRow, IfRow, EachRow, BothRow, SecondRow, EndRow, Wide, may_follow}
+use Rattle.ax_text.specs.Rows.{Row, ActRow, AskRow, IfRow, EachRow, BothRow, SecondRow, EndRow, Wide, may_follow, follow, all_ok, widened_by, now_of}
 use Rattle.ax_text.specs.Rows as rows
-use Rattle.ax_syntax.specs.Shapes.{Shape, Input, State, OnRow, OnTimer, End, Let, Get, GetAt, Has, Empty, Put, Add, Remove, Clear, If, Else, Each, EachPair, Both, With, Emit, Timer, Untimer}
-use Rattle.ax_rules.specs.declared.kinds.FaultKind.{FaultKind}
+use Rattle.ax_syntax.specs.Shapes.{Shape, Input, State, OnRow, OnTimer, End, Else, With}
 use Rattle.ax_rules.specs.declared.kinds.FaultKind.TheVariants as fault
 use Rattle.ax_rules.specs.declared.blocks.Part.{Part}
 use Rattle.ax_rules.specs.declared.blocks.Part.TheVariants as part
 use Rattle.ax_rules.specs.declared.blocks.Print.{Print}
 use Rattle.ax_rules.specs.declared.blocks.Frame.{Frame}
 use Rattle.ax_rules.specs.declared.tables.Tables.{Tables}
-use Rattle.ax_rules.specs.Frames.{is_yes, is_one, top_is, has_conflict, frames_with, opened, block_width, top_width, widest_with, closed, raised}
-use Rattle.ax_rules.specs.Lines.{row_with, timer_with}
-use Rattle.ax_rules.specs.Faults.{is_inside, may_stand, is_too_many, is_too_deep, is_twice, has_unknown, has_wrong_kind, is_loud_in_arm, is_too_wide, print_in, block_fault, fault_in}
+use Rattle.ax_rules.specs.Frames.{is_yes, is_one, top_is, has_conflict, frames_with, opened, top_width, widest_with, closed}
+use Rattle.ax_rules.specs.Lines.{row_with, timer_with, has_row, has_timer, frames_of, widest_of, tables_of}
+use Rattle.ax_rules.specs.Faults.{fault_by, is_inside, may_stand, is_too_many, is_too_deep, is_twice, has_unknown, has_wrong_kind, is_loud_in_arm, is_too_wide, print_in, block_fault, fault_in}
 use Rattle.ax_rules.specs.Laws.{part_in, wide_in, makes}
+use Rattle.ax_rules.specs.Sections.{is_whole}
+use Rattle.ax_rules.specs.Handlers.{IsRowOf, MakesRow, row_after, timer_after, Make, handler, AreRows, RowsHold}
 use Rattle.ax_rules.proofs.FaultLemmas.{passed}
-use Rattle.ax_rules.proofs.RunLemmas.{Runs, runs_on, begun, IsRowOf, IsFree, IsHandler, Ended, ends}
+use Rattle.ax_rules.proofs.RunLemmas.{Runs, runs_on, begun, IsFree, IsHandler, Ended, ends}
 
 -- what a line without a fault has passed
 pub record Passes (t : Tables) (s : Shape) : Type 0 where
@@ -46,17 +46,6 @@ passes_all t s h =
     let unknown = passed (has_unknown t s) fault.UnknownName _ twice.1 in
     let kind = passed (has_wrong_kind t s) fault.Kind _ unknown.1 in
     record { stands = not-false (may_stand t s) word.0; few = many.0; once = twice.0; known = unknown.0; kind = kind.0; blocks = free (print_in t s) s t.frames kind.1 }
-
--- the rows of `on row`, and those of `on timer`, where a line made this row
-abbrev pub row_after : Bool → Option Row → List Row → List Row
-row_after timer None rs = rs
-row_after true (Some r) rs = rs
-row_after false (Some r) rs = rs ++ r ∷ []
-
-abbrev pub timer_after : Bool → Option Row → List Row → List Row
-timer_after timer None ts = ts
-timer_after true (Some r) ts = ts ++ r ∷ []
-timer_after false (Some r) ts = ts
 
 -- a handler that has begun, with its open blocks and how wide it is where it has ended
 abbrev pub HandlerAt : List Frame → List Row → ℕ → Type 0
@@ -116,16 +105,6 @@ at_end true false f n rs ts w h =
     (subst (Ended rs) (sym (max_first n (top_width (f ∷ [])) h.0.1)) (ends f rs w h.0.0), h.1)
 at_end true true f n rs ts w h =
     (h.0, top_width (f ∷ []), h.2, ends f ts w h.3.0, max_second n h.0 h.1 (top_width (f ∷ [])) h.4 h.3.1)
-
--- the row that a line makes, with these open blocks behind it; a handler's own `end` makes none
-abbrev pub MakesRow : Shape → Print → List Frame → Option Row → Type 0
-MakesRow (Input fields) p fs o = o ≡ None
-MakesRow (State name kind) p fs o = o ≡ None
-MakesRow OnRow p fs o = o ≡ None
-MakesRow OnTimer p fs o = o ≡ None
-MakesRow End p [] o = o ≡ None
-MakesRow End p (f ∷ fs) o = o ≡ Some EndRow
-MakesRow s p fs o = (r : Row) × (o ≡ Some r) × IsRowOf s p r
 
 outside_none : (fs : List Frame) → not (nat_lt 0 (length fs)) ≡ true → fs ≡ []
 outside_none [] h = refl
@@ -263,5 +242,47 @@ stage_on Else t rs ts o c m h = second_line t.row t.timer Else (print_in t Else)
 stage_on With t rs ts o c m h = second_line t.row t.timer With (print_in t With) t.frames t.widest rs ts o m.0 is_one m.1 m.2 (with_row m.0 m.2.made) one_turns refl c.stands c.blocks h
 stage_on s t rs ts o c m h = plain_line t.row t.timer s (print_in t s) t.frames t.widest rs ts o m.0 m.1 m.2 (plain_row s m.0 refl m.2.made) c.stands c.blocks h
 
-pub stage_start : Stage false false [] 0 [] []
-stage_start = (refl, refl, refl, refl, refl)
+passes : (s : Shape) (ls : List Shape) → fault_by ls s ≡ None → Passes (tables_of ls) s
+unfolding fault_by
+passes s ls h = passes_all (tables_of ls) s h
+
+-- how far the handlers of lines are
+at_lines : (ls : List Shape) (rs ts : List Row) → Make ls rs ts → Stage (has_row ls) (has_timer ls) (frames_of ls) (widest_of ls) rs ts
+unfolding tables_of print_in
+at_lines [] rs ts h = (refl, refl, refl, h.0, h.1)
+at_lines (s ∷ ls) rs ts h =
+    subst (λ (qs : List Row). Stage (has_row (s ∷ ls)) (has_timer (s ∷ ls)) (frames_of (s ∷ ls)) (widest_of (s ∷ ls)) qs ts) (sym h.5)
+    (subst (λ (us : List Row). Stage (has_row (s ∷ ls)) (has_timer (s ∷ ls)) (frames_of (s ∷ ls)) (widest_of (s ∷ ls)) (row_after (has_timer (s ∷ ls)) h.0 h.1) us) (sym h.6)
+    (stage_on s (tables_of ls) h.1 h.2 h.0 (passes s ls h.3) h.4 (at_lines ls h.1 h.2 h.7)))
+
+-- both handlers have ended
+
+both_wide : (n w v a b : ℕ) → a ≡ w → b ≡ v → n ≡ max w v → n ≡ max a b
+both_wide n w v a b e f g = omega arith
+
+both_narrow : (n w v : ℕ) → w ≤ 16 → v ≤ 16 → n ≡ max w v → n ≤ 16
+both_narrow n w v e f g = omega arith
+
+both_ended : (n w v : ℕ) (rs ts : List Row) → Ended rs w → Ended ts v → n ≡ max w v → AreRows n rs ts
+both_ended n w v rs ts a b e = record {
+  row_follows = a.follows;
+  timer_follows = b.follows;
+  row_ok = a.ok;
+  timer_ok = b.ok;
+  width = both_wide n w v (now_of (widened_by rs handler)) (now_of (widened_by ts handler)) a.width b.width e;
+  narrow = both_narrow n w v a.narrow b.narrow e;
+}
+
+no_timer : Ended [] 0
+no_timer = record { follows = refl; ok = refl; width = refl; narrow = omega arith }
+
+ended_all : (row timer : Bool) (fs : List Frame) (n : ℕ) (rs ts : List Row) → row ≡ true → fs ≡ [] → Stage row timer fs n rs ts → AreRows n rs ts
+ended_all false timer fs n rs ts r e h = absurd (false≢true r)
+ended_all true false fs n rs ts r e h = both_ended n n 0 rs ts (subst (λ (gs : List Frame). HandlerAt gs rs n) e h.0) (subst (λ (us : List Row). Ended us 0) (sym h.1) no_timer) (max_none n)
+ended_all true true fs n rs ts r e h = both_ended n h.0 h.1 rs ts h.2 (subst (λ (gs : List Frame). HandlerAt gs ts h.1) e h.3) h.4
+
+pub rows_hold : (ls : List Shape) (rs ts : List Row) → RowsHold ls rs ts
+unfolding tables_of is_whole
+rows_hold ls rs ts = λ m w.
+    let a = and_parts (is_some (tables_of ls).fields && has_row ls) (not (is_inside (tables_of ls))) w in
+    ended_all (has_row ls) (has_timer ls) (frames_of ls) (widest_of ls) rs ts (and_parts (is_some (tables_of ls).fields) (has_row ls) a.0).1 (outside_none (frames_of ls) a.1) (at_lines ls rs ts m)

@@ -1,33 +1,23 @@
 -- A handler's rows one after another, beside the open blocks of its lines.
-use Rattle.std.proofs.Common.{◌≡◌, ◌∙◌, ℕ, ◌+◌, ◌≤◌, max, List, [], ◌∷◌, ◌++◌, map, refl, sym, ap, ap₂, subst, Bool, true, false, not, ◌&&◌, ◌||◌, nat_lt, Option, Some, None, arith}
+use Rattle.std.proofs.Common.{◌≡◌, ◌∙◌, ℕ, ◌+◌, ◌≤◌, max, List, [], ◌∷◌, ◌++◌, map, refl, sym, ap, subst, Bool, true, false, not, ◌&&◌, nat_lt, Option, Some, None, arith}
 use Rattle.std.specs.List.{list_any}
-use Rattle.std.proofs.lemmas.Bool.{and_parts, and_from, true≢false, false≢true, ltb-false, not_from_false}
-use Rattle.ax_text.specs.Prints.{Print as RowPrint, print, quiet_print, asking_print, loop_print, test_print}
-use Rattle.ax_text.specs.Rows.{Row, ActRow, AskRow, IfRow, EachRow, BothRow, SecondRow, EndRow, Wide, wide, widened, widened_by, may_follow, can_close, follow, now_of, Lines, row_ok, all_ok}
-use Rattle.ax_text.specs.Rows as rows
-use Rattle.ax_syntax.specs.Shapes.{Shape, Input, State, OnRow, OnTimer, End, Let, Get, GetAt, Has, Empty, Put, Add, Remove, Clear, If, Else, Each, EachPair, Both, With, Emit, Timer, Untimer}
+use Rattle.std.proofs.lemmas.Bool.{and_parts, and_from, false≢true, ltb-false}
+use Rattle.ax_text.specs.Prints.{Print as RowPrint, quiet_print, asking_print, loop_print, test_print}
+use Rattle.ax_text.specs.Rows.{Row, ActRow, AskRow, IfRow, EachRow, BothRow, SecondRow, EndRow, Wide, widened, widened_by, may_follow, can_close, follow, now_of, Lines, row_ok, all_ok}
+use Rattle.ax_syntax.specs.Shapes.{Shape, Input, State, OnRow, OnTimer, End, If, Else, Each, EachPair, Both, With}
 use Rattle.ax_rules.specs.declared.blocks.Part.{Part}
 use Rattle.ax_rules.specs.declared.blocks.Part.TheVariants as part
 use Rattle.ax_rules.specs.declared.blocks.Print.{Print}
 use Rattle.ax_rules.specs.declared.blocks.Frame.{Frame}
 use Rattle.ax_rules.specs.Parts.{is_loud, use_of}
-use Rattle.ax_rules.specs.Frames.{is_one, is_two, is_arm, has_conflict, frames_with, note, raised, turned, closed, opened, asked, block_width, width_by, top_is_wide, top_width, no_print}
+use Rattle.ax_rules.specs.Frames.{is_two, is_arm, has_conflict, frames_with, note, raised, turned, closed, opened, asked, block_width, width_by, top_is_wide, top_width}
 use Rattle.ax_rules.specs.Faults.{is_loud_in_arm, is_too_wide}
-use Rattle.ax_rules.specs.Laws.{part_in, wide_in, makes}
+use Rattle.ax_rules.specs.Laws.{wide_in, makes}
 use Rattle.ax_rules.specs.Alike.{quiet, AllHold, lines_with, print_for}
+use Rattle.ax_rules.specs.Handlers.{row_print, IsRowOf, handler}
 use Rattle.ax_rules.proofs.AlikeLemmas.{passes_alike}
 use Rattle.ax_rules.proofs.StayLemmas.{stays_alike}
 use Rattle.ax_rules.proofs.WidthLemmas.{widens_alike}
-
--- what a row touches
-abbrev pub row_print : Row → RowPrint
-row_print (ActRow q) = quiet_print q
-row_print (AskRow a) = asking_print a
-row_print (IfRow e) = test_print e
-row_print (EachRow l) = loop_print l
-row_print BothRow = print [] [] [] [] false
-row_print SecondRow = print [] [] [] [] false
-row_print EndRow = print [] [] [] [] false
 
 -- the rule of arms for one row
 abbrev row_passes : Row → List Lines → Bool
@@ -193,9 +183,6 @@ handler_with (EachPair key number state) r p fs m f h = opened_handler part.Body
 handler_with Both r p fs m f h = opened_handler part.One 0 (map (note p) fs) (note_handler p fs h)
 handler_with s r p fs m f h = act_handler (asked (use_of s)) p fs h
 
-abbrev pub handler : List Wide
-handler = wide rows.Body 0 0 ∷ []
-
 -- the rows of a handler's lines so far, where these blocks are open
 pub record Runs (fs : List Frame) (rs : List Row) : Type 0 where
   pub follows : all_follow rs handler ≡ true
@@ -223,12 +210,6 @@ row_passes_by s (EachRow x) p fs bs h e l a c = passes s (loop_print x) p fs bs 
 row_passes_by s BothRow p fs bs h e l a c = refl
 row_passes_by s SecondRow p fs bs h e l a c = refl
 row_passes_by s EndRow p fs bs h e l a c = refl
-
--- a row that a line makes, and that touches what the line touches
-pub record IsRowOf (s : Shape) (p : Print) (r : Row) : Type 0 where
-  pub made : makes s r ≡ true
-  pub touches : p ≡ print_for r (row_print r)
-  pub loud : (row_print r).loud ≡ is_loud s
 
 -- a line has none of the faults of blocks
 pub record IsFree (s : Shape) (p : Print) (fs : List Frame) : Type 0 where
