@@ -15,7 +15,6 @@ use Rattle.ax_text.specs.declared.vocabulary.Keyword.{Keyword}
 use Rattle.ax_text.specs.declared.vocabulary.Keyword.TheVariants as k
 use Rattle.ax_text.specs.Names.{Word, same_word, keyword_of, is_value_word, is_name, mem}
 use Rattle.ax_text.specs.Exprs.{Expr, Leaf, Join}
-use Rattle.ax_text.specs.Texts.{Let, Emit, Timer, Untimer, Get, GetAt, Has, Empty, Put, PutAt, PutAll, Add, Remove, Clear}
 use Rattle.ax_text.specs.Valid.{has_kind, atom_fits, expr_fits, exprs_fit}
 use Rattle.ax_syntax.specs.Words.{from_one_to_sixteen, unpadded, field_number, sign_of, is_moment, is_operand}
 use Rattle.ax_syntax.specs.Shapes.{goes_on, is_expr, is_exprs, onto_first, parts_of}
@@ -24,11 +23,11 @@ use Rattle.ax_expr.specs.declared.tree.Token.{Token}
 use Rattle.ax_expr.specs.declared.tree.Token.TheVariants as token
 use Rattle.ax_expr.specs.Levels.{level_of}
 use Rattle.ax_expr.specs.Reading.{Waiting, Opened, Before, joined, whole, closed, with_some, walk, tree_of}
-use Rattle.ax_lang.specs.declared.tables.Tables.{Tables}
-use Rattle.ax_lang.specs.Tables.{is_state, is_local, is_comma, is_up_to, is_unknown_name, is_unknown_value, is_unknown, fields_or}
-use Rattle.ax_lang.specs.Statements.{Statement, Acts, Asks, statement_fits}
-use Rattle.ax_lang.specs.Rows.{place_or, place_in, number_or, moment_or, field_or, atom_of, sign_or, token_of, tree_or, tree_in}
+use Rattle.ax_rules.specs.declared.tables.Tables.{Tables}
 use Rattle.ax_rules.specs.Parts.{index_of}
+use Rattle.ax_rules.specs.Faults.{is_state, is_local, is_up_to, is_unknown_name, is_unknown_value, is_unknown}
+use Rattle.ax_lang.specs.Rows.{place_or, place_in, number_or, moment_or, field_or, atom_of, sign_or, token_of, tree_or, tree_in}
+use Rattle.ax_lang.specs.Programs.{fields_or}
 
 -- tests
 
@@ -335,10 +334,10 @@ trees_known t names n (p ∷ ps) e known more few =
     let b = and_parts (list_all (is_known t) p) (list_all (list_all (is_known t)) ps) known in
     and_from (expr_fits (values_of t) n (tree_in names p)) (list_all (expr_fits (values_of t) n) (map (tree_in names) ps)) (expr_known t names n p a.0 b.0 more few) (trees_known t names n ps a.1 b.1 more few)
 
--- an emit of known words
-pub emit_known : (t : Tables) (names : List Word) (n : ℕ) (ks : List Kind) (ws : List Word) → is_exprs ws ≡ true → list_all (is_known t) ws ≡ true → Known t names → length names ≤ n → statement_fits (values_of t) n ks (Acts (Emit (map (tree_in names) (parts_of ws)))) ≡ true
+-- 1 to 16 expressions of known words
+pub exprs_known : (t : Tables) (names : List Word) (n : ℕ) (ws : List Word) → is_exprs ws ≡ true → list_all (is_known t) ws ≡ true → Known t names → length names ≤ n → exprs_fit (values_of t) n (map (tree_in names) (parts_of ws)) ≡ true
 unfolding is_exprs
-emit_known t names n ks ws e known more few =
+exprs_known t names n ws e known more few =
     let a = and_parts (list_all is_expr (parts_of ws)) (nat_le (length (parts_of ws)) 16) e in
     let values = map (tree_in names) (parts_of ws) in
     let same : length (parts_of ws) ≡ length values = sym (length-map (parts_of ws) (tree_in names)) in
@@ -346,85 +345,3 @@ emit_known t names n ks ws e known more few =
     and_from (nat_le 1 (length values) && nat_le (length values) 16) (list_all (expr_fits (values_of t) n) values)
     (subst (λ (m : ℕ). (nat_le 1 m && nat_le m 16) ≡ true) same (and_from (nat_le 1 (length (parts_of ws))) (nat_le (length (parts_of ws)) 16) (le-leb 1 (length (parts_of ws)) some) a.1))
     (trees_known t names n (parts_of ws) a.0 (parts_all (is_known t) ws known) more few)
-
-one_part : (ws : List Word) → list_any is_comma ws ≡ false → parts_of ws ≡ ws ∷ []
-one_part [] h = refl
-one_part (w ∷ ws) h =
-    let a = or_parts (same_word w (codes ",")) (list_any is_comma ws) h in
-    ap (λ (b : Bool). if b then [] ∷ parts_of ws else onto_first w (parts_of ws)) a.0 ∙ ap (onto_first w) (one_part ws a.1)
-
--- expressions without a comma are one
-pub one_expr : (ws : List Word) → is_exprs ws ≡ true → list_any is_comma ws ≡ false → is_expr ws ≡ true
-unfolding is_exprs
-one_expr ws e h =
-    let a = and_parts (list_all is_expr (parts_of ws)) (nat_le (length (parts_of ws)) 16) e in
-    (and_parts (is_expr ws) true (subst (λ (ps : List (List Word)). list_all is_expr ps ≡ true) (one_part ws h) a.0)).0
-
--- what fits goes on to fit where more exists
-
-lt_more : (i n m : ℕ) → n ≤ m → nat_lt i n ≡ true → nat_lt i m ≡ true
-lt_more i n m h e = let low : i < n = ltb-true i n e in lt-ltb i m (omega arith)
-
-atom_more : (f g n m : ℕ) (a : Atom) → f ≤ g → n ≤ m → atom_fits f n a ≡ true → atom_fits g m a ≡ true
-atom_more f g n m (atom.Number z) h i e = e
-atom_more f g n m (atom.Name x) h i e = lt_more x n m i e
-atom_more f g n m (atom.Field x) h i e = lt_more x f g h e
-atom_more f g n m atom.Time h i e = refl
-atom_more f g n m atom.Watermark h i e = refl
-
-expr_more : (f g n m : ℕ) (x : Expr) → f ≤ g → n ≤ m → expr_fits f n x ≡ true → expr_fits g m x ≡ true
-expr_more f g n m (Leaf a) h i e = atom_more f g n m a h i e
-expr_more f g n m (Join o a b) h i e =
-    let p = and_parts (expr_fits f n a) (expr_fits f n b) e in
-    and_from (expr_fits g m a) (expr_fits g m b) (expr_more f g n m a h i p.0) (expr_more f g n m b h i p.1)
-
-exprs_more : (f g n m : ℕ) (xs : List Expr) → f ≤ g → n ≤ m → list_all (expr_fits f n) xs ≡ true → list_all (expr_fits g m) xs ≡ true
-exprs_more f g n m [] h i e = refl
-exprs_more f g n m (x ∷ xs) h i e =
-    let p = and_parts (expr_fits f n x) (list_all (expr_fits f n) xs) e in
-    and_from (expr_fits g m x) (list_all (expr_fits g m) xs) (expr_more f g n m x h i p.0) (exprs_more f g n m xs h i p.1)
-
--- a name and a state, and some more
-named_more : (n m name : ℕ) (state : Bool) (x y : Bool) → n ≤ m → ((nat_lt name n && state) && x) ≡ true → (x ≡ true → y ≡ true) → ((nat_lt name m && state) && y) ≡ true
-named_more n m name state x y i e go =
-    let p = and_parts (nat_lt name n && state) x e in
-    let q = and_parts (nat_lt name n) state p.0 in
-    and_from (nat_lt name m && state) y (and_from (nat_lt name m) state (lt_more name n m i q.0) q.1) (go p.1)
-
-second_more : (a x y : Bool) → (a && x) ≡ true → (x ≡ true → y ≡ true) → (a && y) ≡ true
-second_more a x y e go = let p = and_parts a x e in and_from a y p.0 (go p.1)
-
-both_more : (f g n m : ℕ) (x y : Expr) → f ≤ g → n ≤ m → (expr_fits f n x && expr_fits f n y) ≡ true → (expr_fits g m x && expr_fits g m y) ≡ true
-both_more f g n m x y h i e =
-    let p = and_parts (expr_fits f n x) (expr_fits f n y) e in
-    and_from (expr_fits g m x) (expr_fits g m y) (expr_more f g n m x h i p.0) (expr_more f g n m y h i p.1)
-
-few_more : (f g n m : ℕ) (xs : List Expr) → f ≤ g → n ≤ m → exprs_fit f n xs ≡ true → exprs_fit g m xs ≡ true
-few_more f g n m xs h i e = second_more _ (list_all (expr_fits f n) xs) (list_all (expr_fits g m) xs) e (exprs_more f g n m xs h i)
-
-pub statement_more : (f g n m : ℕ) (ks : List Kind) (s : Statement) → f ≤ g → n ≤ m → statement_fits f n ks s ≡ true → statement_fits g m ks s ≡ true
-statement_more f g n m ks (Acts (Let name x)) h i e =
-    let p = and_parts (nat_lt name n) (expr_fits f n x) e in
-    and_from (nat_lt name m) (expr_fits g m x) (lt_more name n m i p.0) (expr_more f g n m x h i p.1)
-statement_more f g n m ks (Asks (GetAt name state place missing)) h i e = named_more n m name (has_kind ks state kind.Map) _ _ i e (both_more f g n m place missing h i)
-statement_more f g n m ks (Asks (Has name state place)) h i e = named_more n m name (has_kind ks state kind.Map) _ _ i e (expr_more f g n m place h i)
-statement_more f g n m ks (Asks (Empty name state)) h i e =
-    let p = and_parts (nat_lt name n) (has_kind ks state kind.Map) e in
-    and_from (nat_lt name m) (has_kind ks state kind.Map) (lt_more name n m i p.0) p.1
-statement_more f g n m ks (Asks (PutAt state place number)) h i e = second_more (has_kind ks state kind.Map) _ _ e (both_more f g n m place number h i)
-statement_more f g n m ks (Asks (PutAll state numbers)) h i e = second_more (has_kind ks state kind.List) _ _ e (few_more f g n m numbers h i)
-statement_more f g n m ks (Asks (Add state number)) h i e = second_more (has_kind ks state kind.List) _ _ e (expr_more f g n m number h i)
-statement_more f g n m ks (Asks (Remove state place)) h i e = second_more (has_kind ks state kind.Map) _ _ e (expr_more f g n m place h i)
-statement_more f g n m ks (Asks (Clear state)) h i e = e
-statement_more f g n m ks (Acts (Emit values)) h i e =
-    few_more f g n m values h i e
-statement_more f g n m ks (Acts (Timer time)) h i e = expr_more f g n m time h i e
-statement_more f g n m ks (Acts (Untimer time)) h i e = expr_more f g n m time h i e
-statement_more f g n m ks (Asks (Get name state missing)) h i e = named_more n m name (has_kind ks state kind.Value) _ _ i e (expr_more f g n m missing h i)
-statement_more f g n m ks (Asks (Put state number)) h i e = second_more (has_kind ks state kind.Value) _ _ e (expr_more f g n m number h i)
-
-pub statements_more : (f g n m : ℕ) (ks : List Kind) (ss : List Statement) → f ≤ g → n ≤ m → list_all (statement_fits f n ks) ss ≡ true → list_all (statement_fits g m ks) ss ≡ true
-statements_more f g n m ks [] h i e = refl
-statements_more f g n m ks (s ∷ ss) h i e =
-    let p = and_parts (statement_fits f n ks s) (list_all (statement_fits f n ks) ss) e in
-    and_from (statement_fits g m ks s) (list_all (statement_fits g m ks) ss) (statement_more f g n m ks s h i p.0) (statements_more f g n m ks ss h i p.1)

@@ -2,3 +2,9 @@ pub mod FitLemmas
 pub mod StepLemmas
 pub mod LinkLemmas
 pub mod ProgramLemmas
+pub mod RowLemmas
+pub mod TokenLemmas
+pub mod ExprLemmas
+pub mod ShapeLemmas
+pub mod NameLemmas
+pub mod SoundLemmas

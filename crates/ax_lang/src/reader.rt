@@ -128,12 +128,9 @@ fn finish(alloc: Global, tables: Tables, handlers: Handlers) -> Result<Program, 
     let decls = decls_of(alloc, tables.states.as_slice())?;
     let fields = tables.fields.unwrap_or(0);
     let width = tables.widest.max(1) as u8;
-    let timer = if tables.timer {
-        Some(handlers.timer)
-    } else {
-        None
-    };
-    Program::new(alloc, fields, decls, tables.most, width, handlers.row, timer)
+    let Handlers { row, timer } = handlers;
+    let timer = if tables.timer { Some(timer) } else { None };
+    Program::new(alloc, fields, decls, tables.most, width, row, timer)
 }
 
 /// The program of a section's lines, or its first fault: each line is tested against all lines before it, for one kind of

@@ -1,5 +1,5 @@
 //! The row of a line.
-ghost use Rattle.std.specs.Prelude.{◌≡◌, ◌≤◌, length, map, IfOk, true};
+ghost use Rattle.std.specs.Prelude.{◌≡◌, ◌≤◌, length, map, IfOk, true, false};
 ghost use Rattle.ax_base.specs.Numbers.{number_of};
 ghost use Rattle.ax_syntax.specs.Words.{keyword_of, field_number};
 ghost use Rattle.ax_syntax.specs.Shapes.{shown_shape, parts_of};
