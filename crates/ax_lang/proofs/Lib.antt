@@ -8,3 +8,5 @@ pub mod ExprLemmas
 pub mod ShapeLemmas
 pub mod NameLemmas
 pub mod SoundLemmas
+pub mod PrintLemmas
+pub mod BlockLemmas
