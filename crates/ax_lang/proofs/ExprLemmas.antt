@@ -107,7 +107,7 @@ or_fits f n (Some x) h = h
 
 -- words of expressions
 
-abbrev is_expr_word : Word → Bool
+abbrev pub is_expr_word : Word → Bool
 is_expr_word w = (same_word w (codes "(") || same_word w (codes ")")) || (is_some (sign_of w) || is_operand w)
 
 open_word : (w : Word) (ws : List Word) (n : ℕ) (b : Bool) → same_word w (codes "(") ≡ b
@@ -135,7 +135,7 @@ words_on [] n ended h = refl
 words_on (w ∷ ws) n false h = open_word w ws n (same_word w (codes "(")) refl h (words_on ws (n + 1) false) (words_on ws n true)
 words_on (w ∷ ws) n true h = end_word w ws n (same_word w (codes ")")) refl h (words_on ws (n - 1) true) (words_on ws n false)
 
-expr_words : (ws : List Word) → is_expr ws ≡ true → list_all is_expr_word ws ≡ true
+pub expr_words : (ws : List Word) → is_expr ws ≡ true → list_all is_expr_word ws ≡ true
 unfolding is_expr
 expr_words ws h = words_on ws 0 false h
 
@@ -143,7 +143,7 @@ expr_words ws h = words_on ws 0 false h
 
 -- a word that names a value
 
-abbrev Counts : Bool → Option ℕ → Type 0
+abbrev pub Counts : Bool → Option ℕ → Type 0
 Counts b None = Unit {0}
 Counts b (Some n) = (b ≡ true) × (1 ≤ n)
 
@@ -186,7 +186,7 @@ unpadded_count (c ∷ cs) = cases (c == 48) where
   cases true = tt
   cases false = digits_count (c ∷ cs)
 
-field_counts : (w : Word) → Counts (is_value_word w) (field_number w)
+pub field_counts : (w : Word) → Counts (is_value_word w) (field_number w)
 unfolding field_number
 field_counts [] = tt
 field_counts (b ∷ bs) = cases (b == 118) where

@@ -12,3 +12,5 @@ pub mod DeclLemmas
 pub mod AcceptedLemmas
 pub mod ReadingLemmas
 pub mod FinishLemmas
+pub mod PrintLemmas
+pub mod BlockLemmas

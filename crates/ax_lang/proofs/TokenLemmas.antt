@@ -17,7 +17,7 @@ if_true : {A : Type 0} (b : Bool) (x y : A) → b ≡ true → (if b then x else
 if_true true x y h = refl
 if_true false x y h = absurd (false≢true h)
 
-if_false : {A : Type 0} (b : Bool) (x y : A) → b ≡ false → (if b then x else y) ≡ y
+pub if_false : {A : Type 0} (b : Bool) (x y : A) → b ≡ false → (if b then x else y) ≡ y
 if_false true x y h = absurd (true≢false h)
 if_false false x y h = refl
 
@@ -30,13 +30,13 @@ same_equal (x ∷ xs) (y ∷ ys) h =
     ap (λ (z : ℕ). z ∷ xs) (eqb-true x y a.0) ∙ ap (λ (zs : Word). y ∷ zs) (same_equal xs ys a.1)
 
 -- words that a test tells apart differ
-apart : (p : Word → Bool) (w s : Word) → p s ≡ false → p w ≡ true → same_word w s ≡ false
+pub apart : (p : Word → Bool) (w s : Word) → p s ≡ false → p w ≡ true → same_word w s ≡ false
 apart p w s f t = cases (same_word w s) refl where
   cases : (b : Bool) → same_word w s ≡ b → b ≡ false
   cases true g = absurd (true≢false (sym t ∙ (ap p (same_equal w s g) ∙ f)))
   cases false g = refl
 
-sign_none : (w : Word) → is_operand w ≡ true → sign_of w ≡ None
+pub sign_none : (w : Word) → is_operand w ≡ true → sign_of w ≡ None
 unfolding sign_of is_operand is_name keyword_of
 sign_none w h =
     if_false (same_word w (codes "<")) _ _ (apart is_operand w (codes "<") refl h)
@@ -51,11 +51,11 @@ sign_none w h =
     ∙ (if_false (same_word w (codes "/")) _ _ (apart is_operand w (codes "/") refl h)
     ∙ if_false (same_word w (codes "%")) _ _ (apart is_operand w (codes "%") refl h))))))))))
 
-token_open : (locals : List Word) (w : Word) → same_word w (codes "(") ≡ true → token_of locals w ≡ token.Open
+pub token_open : (locals : List Word) (w : Word) → same_word w (codes "(") ≡ true → token_of locals w ≡ token.Open
 unfolding token_of
 token_open locals w h = if_true (same_word w (codes "(")) _ _ h
 
-token_rest : (locals : List Word) (w : Word) → same_word w (codes "(") ≡ false → same_word w (codes ")") ≡ false → token_of locals w ≡ sign_or (sign_of w) (token.Operand (atom_of locals w))
+pub token_rest : (locals : List Word) (w : Word) → same_word w (codes "(") ≡ false → same_word w (codes ")") ≡ false → token_of locals w ≡ sign_or (sign_of w) (token.Operand (atom_of locals w))
 unfolding token_of
 token_rest locals w h g = if_false (same_word w (codes "(")) _ _ h ∙ if_false (same_word w (codes ")")) _ _ g
 
@@ -63,7 +63,7 @@ token_operand : (locals : List Word) (w : Word) → same_word w (codes "(") ≡ 
 unfolding is_operand is_name keyword_of
 token_operand locals w h o = token_rest locals w h (apart is_operand w (codes ")") refl o) ∙ ap (λ (s : Option Op). sign_or s (token.Operand (atom_of locals w))) (sign_none w o)
 
-token_close : (locals : List Word) (w : Word) → same_word w (codes ")") ≡ true → token_of locals w ≡ token.Close
+pub token_close : (locals : List Word) (w : Word) → same_word w (codes ")") ≡ true → token_of locals w ≡ token.Close
 unfolding token_of
 token_close locals w h = ap (token_of locals) (same_equal w (codes ")") h)
 

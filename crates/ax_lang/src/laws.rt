@@ -6,6 +6,8 @@ ghost use Rattle.ax_text.specs.Prints.{is_accepted};
 ghost use Rattle.ax_text.specs.Programs.{Program, program_width, text_or_stop};
 ghost use Rattle.ax_text.specs.Valid.{IsValid};
 ghost use Rattle.ax_lang.specs.declared.program.Program.{Program as AnyProgram};
+ghost use Rattle.ax_syntax.specs.Shapes.{Shape as LineShape};
+ghost use Rattle.ax_lang.specs.Blocks.{CleanLinesHold};
 ghost use Rattle.ax_lang.specs.Laws.{HasTree};
 ghost use Rattle.ax_lang.specs.Programs.{Accepted, program_of};
 ghost use Rattle.ax_lang.specs.Shown.{shown_program};
@@ -34,4 +36,10 @@ pub fn program_is_accepted()
 /// Every program that lines say, as `read_program` reads them, is valid.
 pub fn accepted_program_is_valid()
     ensures { (lines : List Line) (end : SectionEnd) (p : Program) → program_of lines end ≡ Accepted p → IsValid p }
+{}
+
+/// The rows of lines without fault close each block, keep the rule of arms, and are as wide as the tables say.
+#[tactic(auto, using(crate::proofs::BlockLemmas::blocks_hold))]
+pub fn blocks_law()
+    ensures { (lines : List LineShape) → CleanLinesHold lines }
 {}
