@@ -24,7 +24,7 @@ use Rattle.ax_lang.proofs.ShapeLemmas.{shape_well}
 -- what is known after i lines
 pub record Reads (ls : List Line) (end : SectionEnd) (i : ℕ) (t : Tables) (rows : HandlerRows) : Type 0 where
   pub on : ReadsOn ls end i t
-  pub rows : rows ≡ rows_of (shapes_of (take i ls))
+  pub made : rows ≡ rows_of (shapes_of (take i ls))
   pub clean : Clean (shapes_of (take i ls))
 
 -- what is said of an answer that is known
@@ -51,14 +51,14 @@ taken ls i l end t t' rows rows' h is reads told =
     let more : shapes_of (take (i + 1) ls) ≡ with_line s before = shapes_more ls i l h in
     record {
       on = line_taken ls i l end t t' h is reads.on (told.0, told.1);
-      rows = here.2 ∙ (rows_on before s t' rows tables reads.rows ∙ ap rows_of (sym more));
+      made = here.2 ∙ (rows_on before s t' rows tables reads.made ∙ ap rows_of (sym more));
       clean = subst Clean (sym more) (clean_on before s reads.clean (shape_well (words_of k.text)) none);
     }
 
 -- the section has a fault
-faulty : (ls : List Line) (end : SectionEnd) (line : ℕ) (kind : FaultKind) → section.Faulty line kind ≡ reading_of ls end → program_of ls end ≡ Faulty line (kind_number kind)
+faulty : (ls : List Line) (end : SectionEnd) (line : ℕ) (k : FaultKind) → section.Faulty line k ≡ reading_of ls end → program_of ls end ≡ Faulty line (kind_number k)
 unfolding program_of
-faulty ls end line kind e = ap (said_by (shapes_of ls)) (sym e)
+faulty ls end line k e = ap (said_by (shapes_of ls)) (sym e)
 
 -- a line has a fault
 pub told : (ls : List Line) (i : ℕ) (l : Line) (end : SectionEnd) (t t' : Tables) (rows rows' : HandlerRows) (kind : FaultKind) → i < length ls → l ≡ get_or ls i l → Reads ls end i t rows
@@ -74,7 +74,7 @@ pub done : (ls : List Line) (i : ℕ) (end : SectionEnd) (t : Tables) (rows : Ha
 unfolding program_of
 done ls i end t rows h reads d =
     ap (said_by (shapes_of ls)) (sym (whole ls i end t h reads.on d))
-    ∙ ap (λ (rs : HandlerRows). Accepted (program_in t rs)) (sym (reads.rows ∙ ap (λ (ks : List Line). rows_of (shapes_of ks)) (take_all i ls h)))
+    ∙ ap (λ (rs : HandlerRows). Accepted (program_in t rs)) (sym (reads.made ∙ ap (λ (ks : List Line). rows_of (shapes_of ks)) (take_all i ls h)))
 
 pub are_clean : (ls : List Line) (i : ℕ) (end : SectionEnd) (t : Tables) (rows : HandlerRows) → Reads ls end i t rows → AreClean t rows
-are_clean ls i end t rows reads = (shapes_of (take i ls), reads.on.tables, reads.rows, reads.clean)
+are_clean ls i end t rows reads = (shapes_of (take i ls), reads.on.tables, reads.made, reads.clean)

@@ -12,10 +12,13 @@ use Rattle.ax_lang.proofs.FinishLemmas.{sound}
 use Rattle.ax_lang.proofs.ReadingLemmas.{Reads, taken, told, not_done, done, are_clean, by_answer}
 use Rattle.ax_lang.proofs.reader.read_program.Goals as goal
 
+abbrev handler_rows : List Row → List Row → HandlerRows
+handler_rows row timer = record { row = row; timer = timer }
+
 pub loop-line-init : goal.loop-line-init
 loop-line-init c = record {
   on = start c.args.lines.now c.args.end c.new-tables.result c.new-tables.ensures;
-  rows = ap₂ (λ (row timer : List CodeRow). the HandlerRows (record { row = map shown_row row; timer = map shown_row timer })) c.new.ensures.items c.new-2.ensures.items;
+  made = ap₂ (λ (row timer : List CodeRow). handler_rows (map shown_row row) (map shown_row timer)) c.new.ensures.items c.new-2.ensures.items;
   clean = tt;
 }
 
