@@ -2,3 +2,15 @@ pub mod FitLemmas
 pub mod StepLemmas
 pub mod LinkLemmas
 pub mod ProgramLemmas
+pub mod RowLemmas
+pub mod TokenLemmas
+pub mod ExprLemmas
+pub mod ShapeLemmas
+pub mod NameLemmas
+pub mod SoundLemmas
+pub mod DeclLemmas
+pub mod AcceptedLemmas
+pub mod ReadingLemmas
+pub mod FinishLemmas
+pub mod PrintLemmas
+pub mod BlockLemmas

@@ -2,3 +2,8 @@ pub mod Forms
 pub mod Steps
 pub mod Links
 pub mod Shown
+pub mod Rows
+pub mod Clean
+pub mod Blocks
+pub mod Programs
+pub mod Laws

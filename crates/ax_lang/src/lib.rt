@@ -4,8 +4,11 @@
 pub mod laws;
 mod link;
 pub mod program;
+pub mod reader;
+mod rows;
 pub mod step;
 
-pub use laws::{program_is_accepted, program_is_valid};
+pub use laws::{expression_law, program_is_accepted, program_is_valid};
 pub use program::Program;
+pub use reader::{ProgFault, SectionEnd, read_program};
 pub use step::{Loop, Step, Stmt};

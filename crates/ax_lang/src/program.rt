@@ -76,7 +76,12 @@ impl Program {
         requires narrow { width ≤ 16 }
         ensures { IfOk result (λ p. shown_program p ≡ record { fields = fields; states = shown_states decls; row = text_of (map shown_row row.items); timer = text_if timer }) }
     {
-        let mut steps = Vec::new(alloc);
+        let lines = row
+            .len()
+            .saturating_add(timer.as_ref().map_or(0, |rows| rows.len()));
+        let Ok(mut steps) = Vec::with_capacity(alloc, lines) else {
+            return Err(NoMemory);
+        };
         let row = link(alloc, &mut steps, row)?;
         let timer = link_some(alloc, &mut steps, timer)?;
         Ok(Program {

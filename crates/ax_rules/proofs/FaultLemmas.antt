@@ -14,7 +14,7 @@ use Rattle.ax_rules.specs.Lines.{tables_of}
 use Rattle.ax_rules.specs.Faults.{is_too_many, is_loud_in_arm, block_fault, is_too_wide, print_in, fault_in, fault_by}
 use Rattle.ax_rules.specs.Taking.{behind, Steps}
 
-passed : (b : Bool) (k : FaultKind) (o : Option FaultKind) → (if b then Some k else o) ≡ None → (b ≡ false) × (o ≡ None)
+pub passed : (b : Bool) (k : FaultKind) (o : Option FaultKind) → (if b then Some k else o) ≡ None → (b ≡ false) × (o ≡ None)
 passed true k o h = cc
 passed false k o h = (refl, h)
 

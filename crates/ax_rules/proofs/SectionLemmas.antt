@@ -12,31 +12,23 @@ use Rattle.ax_rules.specs.declared.section.Reading.TheVariants as reading
 use Rattle.ax_rules.specs.Lines.{tables_of}
 use Rattle.ax_rules.specs.Faults.{fault_by}
 use Rattle.ax_rules.specs.Taking.{fault_some, behind_some, Steps}
-use Rattle.ax_rules.specs.Sections.{shape_in, fault_at, with_line, or_fault, is_whole, ended, read_from, reading_of}
+use Rattle.ax_rules.specs.Sections.{shape_in, fault_at, with_line, shapes_from, shapes_of, or_fault, is_whole, ended, read_from, reading_of}
 use Rattle.ax_rules.proofs.FaultLemmas.{behind_line}
-
--- the shapes of lines, the latest first
-abbrev shapes_from : List Shape → List Line → List Shape
-shapes_from before [] = before
-shapes_from before (l ∷ ls) = shapes_from (with_line (shape_in l) before) ls
-
-abbrev pub shapes_of : List Line → List Shape
-shapes_of lines = shapes_from [] lines
 
 shapes_last : (ls : List Line) (before : List Shape) (l : Line) → shapes_from before (ls ++ l ∷ []) ≡ with_line (shape_in l) (shapes_from before ls)
 shapes_last [] before l = refl
 shapes_last (k ∷ ls) before l = shapes_last ls (with_line (shape_in k) before) l
 
 -- the shapes of one more line
-shapes_more : (ls : List Line) (i : ℕ) (d : Line) → i < length ls → shapes_of (take (i + 1) ls) ≡ with_line (shape_in (get_or ls i d)) (shapes_of (take i ls))
+pub shapes_more : (ls : List Line) (i : ℕ) (d : Line) → i < length ls → shapes_of (take (i + 1) ls) ≡ with_line (shape_in (get_or ls i d)) (shapes_of (take i ls))
 shapes_more ls i d h = ap (shapes_from []) (take_more ls i d h) ∙ shapes_last (take i ls) [] (get_or ls i d)
 
-fault_is : (before : List Shape) (s : Option Shape) → fault_some (tables_of before) s ≡ fault_at before s
+pub fault_is : (before : List Shape) (s : Option Shape) → fault_some (tables_of before) s ≡ fault_at before s
 unfolding fault_by
 fault_is before None = refl
 fault_is before (Some s) = refl
 
-behind_is : (before : List Shape) (s : Option Shape) → behind_some s (tables_of before) ≡ tables_of (with_line s before)
+pub behind_is : (before : List Shape) (s : Option Shape) → behind_some s (tables_of before) ≡ tables_of (with_line s before)
 behind_is before None = refl
 behind_is before (Some s) = sym (behind_line s before)
 

@@ -7,3 +7,4 @@ pub mod Taking
 pub mod Sections
 pub mod Laws
 pub mod Alike
+pub mod Handlers

@@ -24,6 +24,14 @@ abbrev pub with_line : Option Shape → List Shape → List Shape
 with_line None ls = ls
 with_line (Some s) ls = s ∷ ls
 
+abbrev pub shapes_from : List Shape → List Line → List Shape
+shapes_from before [] = before
+shapes_from before (l ∷ ls) = shapes_from (with_line (shape_in l) before) ls
+
+-- the shapes of lines, the latest first
+abbrev pub shapes_of : List Line → List Shape
+shapes_of lines = shapes_from [] lines
+
 abbrev pub or_fault : Option FaultKind → ℕ → Reading → Reading
 or_fault None line go = go
 or_fault (Some kind) line go = reading.Faulty line kind

@@ -180,7 +180,8 @@ impl Tables {
         mem(word, self.locals.as_slice())
     }
 
-    pub(crate) fn is_inside(&self) -> bool
+    /// Whether a handler is open.
+    pub fn is_inside(&self) -> bool
         ensures { result ≡ is_inside self.now }
     {
         self.frames.len() > 0
@@ -374,6 +375,13 @@ impl Tables {
             || self.is_some_state(set_of(shape))
             || self.is_some_state(also_of(shape))
             || self.is_unserved(shape)
+    }
+
+    /// The kind of the state of this name, where there is one.
+    pub fn kind_of(&self, name: &[u8]) -> Option<KindWord>
+        ensures { result ≡ kind_of self.now.states name.now }
+    {
+        kind_of(self.states.as_slice(), name)
     }
 
     /// The first kind of fault that a line has here, of those that need no look at the open blocks.

@@ -13,6 +13,6 @@ mod taking;
 
 pub use blocks::{Frame, Frames, Part, Print};
 pub use kinds::FaultKind;
-pub use laws::{arm_law, note_law, pass_law, width_law};
+pub use laws::{arm_law, note_law, pass_law, rows_law, width_law};
 pub use section::{Reading, SectionEnd, read_section};
 pub use tables::{DeclaredState, Tables};

@@ -42,9 +42,9 @@ impl Tables {
         self.step(alloc, &shape)
     }
 
-    // Whether nothing is due at the end.
+    /// Whether nothing is due at the end of the section: `input` and `on row` have come, and no block is open.
     #[tactic(auto, unfolding(crate::specs::Sections::is_whole))]
-    fn is_whole(&self) -> bool
+    pub fn is_whole(&self) -> bool
         ensures { result ≡ is_whole self.now }
     {
         self.fields.is_some() && self.row && !self.is_inside()

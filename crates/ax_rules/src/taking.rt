@@ -136,6 +136,7 @@ impl Tables {
     ///
     /// After a fault, and where memory is wanting, the tables are of no more use.
     pub fn take_line(&mut self, alloc: Global, shape: &Shape) -> Result<Option<FaultKind>, NoMemory>
+        ensures step { Steps self.old (Some (shown_shape shape.now)) self.new result }
         ensures fault { (before : List LineShape) → self.old ≡ tables_of before → IfOk result (λ fault. fault ≡ fault_by before (shown_shape shape.now)) }
         ensures tables { (before : List LineShape) → self.old ≡ tables_of before → result ≡ Ok None → self.new ≡ tables_of (shown_shape shape.now ∷ before) }
     {

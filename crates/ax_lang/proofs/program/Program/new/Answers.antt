@@ -18,7 +18,7 @@ invariant_of-result c =
     let more = c.link_some.new.steps.items in
     let row = c.in_ok-row.row in
     let timer = c.in_ok-timer.timer in
-    let none : steps_fit fields locals ks 0 c.new-steps.result.items ≡ true = ap (steps_fit fields locals ks 0) c.new-steps.ensures.items in
+    let none : steps_fit fields locals ks 0 c.in-Ok.steps.items ≡ true = ap (steps_fit fields locals ks 0) c.in-Ok.ensures.items in
     let text : text_at more row ≡ text_of (map shown_row rows) = row_text rows steps more row c.in_ok-row.ensures.text c.in_ok-row.ensures.place c.in_ok-timer.ensures.stays in
     record {
       few_fields = c.requires.fields;

@@ -1,0 +1,87 @@
+-- Accepted lines make a valid program.
+use Rattle.std.proofs.Common.{◌≡◌, ◌∙◌, ℕ, ◌≤◌, List, [], ◌∷◌, map, length, refl, sym, ap, subst, arith, Bool, true, false, ◌&&◌, Option, Some, None, if◌then◌else◌}
+use Rattle.std.specs.List.{list_all}
+use Rattle.std.proofs.lemmas.Option.{none-some}
+use Rattle.std.proofs.lemmas.List.{length-map}
+use Rattle.ax_base.specs.declared.lines.Line.{Line}
+use Rattle.ax_base.specs.Words.{words_of}
+use Rattle.ax_text.specs.declared.vocabulary.Kind.{Kind}
+use Rattle.ax_text.specs.Names.{Word, is_name, are_distinct}
+use Rattle.ax_text.specs.Programs.{Program, kinds_of}
+use Rattle.ax_text.specs.Rows.{text_of}
+use Rattle.ax_text.specs.Valid.{IsValid, text_fits, timer_fits, names_of as program_names}
+use Rattle.ax_syntax.specs.Shapes.{Shape}
+use Rattle.ax_rules.specs.declared.kinds.FaultKind.{FaultKind}
+use Rattle.ax_rules.specs.declared.kinds.FaultKind.TheVariants as fault
+use Rattle.ax_rules.specs.declared.section.Reading.{Reading as Section}
+use Rattle.ax_rules.specs.declared.section.Reading.TheVariants as section
+use Rattle.ax_rules.specs.declared.section.SectionEnd.{SectionEnd}
+use Rattle.ax_rules.specs.declared.tables.Tables.{Tables}
+use Rattle.ax_rules.specs.Lines.{names_of, tables_of}
+use Rattle.ax_rules.specs.Sections.{shape_in, fault_at, with_line, shapes_from, shapes_of, or_fault, is_whole, ended, read_from, reading_of}
+use Rattle.ax_lang.specs.Rows.{HandlerRows, rows_of}
+use Rattle.ax_lang.specs.Clean.{Clean}
+use Rattle.ax_lang.specs.Programs.{state_in, fields_or, timer_text, program_in, Reading, Faulty, Accepted, said_by, program_of}
+use Rattle.ax_lang.proofs.DeclLemmas.{names_same, kinds_same}
+use Rattle.ax_lang.proofs.FitLemmas.{text_of_fits}
+use Rattle.ax_lang.proofs.NameLemmas.{kinds_in}
+use Rattle.ax_lang.proofs.ShapeLemmas.{WellShapedIf, shape_well}
+use Rattle.ax_lang.proofs.SoundLemmas.{UpToSixteen, Sound, sound_lines}
+
+pub few_fields : (o : Option ℕ) → UpToSixteen o → fields_or o ≤ 16
+few_fields None h = omega arith
+few_fields (Some n) h = h
+
+-- the program that sound tables and rows make
+program_in_valid : (t : Tables) (rows : HandlerRows) → Sound t rows → IsValid (program_in t rows)
+unfolding program_in
+program_in_valid t rows h =
+    let same = sym (kinds_same t.states) in
+    let names = sym (names_same t.states) in
+    let few : length t.states ≤ 64 = h.states in
+    record {
+      fields = few_fields t.fields h.fields;
+      states = (let e : length (map state_in t.states) ≡ length t.states = length-map t.states state_in in omega arith);
+      named = subst (λ (ws : List Word). list_all is_name ws ≡ true) names h.named;
+      distinct = subst (λ (ws : List Word). are_distinct ws ≡ true) names h.distinct;
+      locals = t.most;
+      few = h.most;
+      row = subst (λ (ks : List Kind). text_fits (fields_or t.fields) t.most ks (text_of rows.row) ≡ true) same (text_of_fits (fields_or t.fields) t.most (kinds_in t.states) rows.row h.row);
+      timer = timer t.timer;
+    }
+  where
+    timer : (b : Bool) → timer_fits t.most (kinds_of (map state_in t.states)) (timer_text b rows.timer) ≡ true
+    timer true = subst (λ (ks : List Kind). text_fits 0 t.most ks (text_of rows.timer) ≡ true) (sym (kinds_same t.states)) (text_of_fits 0 t.most (kinds_in t.states) rows.timer h.timer)
+    timer false = refl
+
+-- one line without fault on
+pub clean_on : (before : List Shape) (s : Option Shape) → Clean before → WellShapedIf s → fault_at before s ≡ None → Clean (with_line s before)
+clean_on before None c w f = absurd (none-some fault.Word (sym f))
+clean_on before (Some s) c w f = (w, f, c)
+
+-- a reading that is a program, if any, is a valid one
+IsValidIf : Reading → Type 0
+IsValidIf (Faulty line kind) = Unit {0}
+IsValidIf (Accepted p) = IsValid p
+
+ended_valid : (ls : List Shape) (end : SectionEnd) → Clean ls → IsValidIf (said_by ls (ended ls end))
+unfolding ended IsValidIf
+ended_valid ls end c = cases (is_whole (tables_of ls) && end.found) where
+  cases : (b : Bool) → IsValidIf (said_by ls (if b then section.Whole (tables_of ls) else section.Faulty end.line fault.NoEnd))
+  cases true = program_in_valid (tables_of ls) (rows_of ls) (sound_lines ls c)
+  cases false = tt
+
+read_valid : (before : List Shape) (ls : List Line) (end : SectionEnd) → Clean before → IsValidIf (said_by (shapes_from before ls) (read_from before ls end))
+unfolding read_from IsValidIf
+read_valid before [] end c = ended_valid before end c
+read_valid before (l ∷ ls) end c = cases (fault_at before (shape_in l)) (λ f. read_valid (with_line (shape_in l) before) ls end (clean_on before (shape_in l) c (shape_well (words_of l.text)) f)) where
+  more : List Shape
+  more = with_line (shape_in l) before
+  cases : (o : Option FaultKind) → (o ≡ None → IsValidIf (said_by (shapes_from more ls) (read_from more ls end))) → IsValidIf (said_by (shapes_from more ls) (or_fault o l.number (read_from more ls end)))
+  cases None go = go refl
+  cases (Some kind) go = tt
+
+-- a program that lines say is valid
+pub accepted_valid : (lines : List Line) (end : SectionEnd) (p : Program) → program_of lines end ≡ Accepted p → IsValid p
+unfolding program_of reading_of IsValidIf
+accepted_valid lines end p e = subst IsValidIf e (read_valid [] lines end tt)
