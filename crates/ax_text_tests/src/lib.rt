@@ -6,6 +6,8 @@
 mod exprs;
 pub mod fills;
 #[cfg(test)]
+mod futures;
+#[cfg(test)]
 mod keys;
 #[cfg(test)]
 mod rules;

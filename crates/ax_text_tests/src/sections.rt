@@ -3,6 +3,7 @@ use ax_base::{Bytes, Line, ListOf, NoMemory};
 use ax_lang::program::Program;
 use ax_lang::reader::{ProgFault, SectionEnd, read_program};
 use ax_lang::step::Stmt;
+use ax_text::Handler;
 use std::alloc::Global;
 
 fn add(lines: &mut Vec<Line>, text: Bytes) -> Result<(), NoMemory> {
@@ -349,12 +350,33 @@ fn stands(program: &Program, place: usize) -> (&'static str, usize) {
     let Some(step) = program.step(place) else {
         return ("nothing", 0);
     };
+    let name = match &step.stmt {
+        Stmt::Let { .. } => "let",
+        Stmt::Get { .. } => "get",
+        Stmt::Put { .. } => "put",
+        Stmt::PutAt { .. } => "put at",
+        Stmt::PutAll { .. } => "put all",
+        Stmt::Emit { .. } => "emit",
+        Stmt::SetTimer { .. } => "timer",
+        Stmt::UnsetTimer { .. } => "untimer",
+        Stmt::If { .. } => "if",
+        Stmt::Each { .. } => "each",
+        Stmt::Both { .. } => "both",
+        _ => "other",
+    };
+    (name, step.next)
+}
+
+// The places that a block names: its parts.
+fn parts(program: &Program, place: usize) -> (usize, usize) {
+    let Some(step) = program.step(place) else {
+        return (0, 0);
+    };
     match &step.stmt {
-        Stmt::Get { .. } => ("get", step.next),
-        Stmt::Put { .. } => ("put", step.next),
-        Stmt::Emit { .. } => ("emit", step.next),
-        Stmt::SetTimer { .. } => ("timer", step.next),
-        Stmt::UnsetTimer { .. } => ("untimer", step.next),
+        Stmt::If { one, other, .. } => (*one, *other),
+        Stmt::Each { body, .. } => (*body, 0),
+        Stmt::Both { one, two } => (*one, *two),
+        _ => (0, 0),
     }
 }
 
@@ -381,8 +403,8 @@ fn a_program_as_steps(rt: HostRuntime) {
     assert_eq!(rt; program.width(), 1);
     assert!(&rt; !program.has_timer());
     assert_eq!(rt; program.locals(), 1);
-    assert_eq!(rt; program.first(), 3);
-    assert_eq!(rt; program.timer_first(), 0);
+    assert_eq!(rt; program.place_of(Handler::Row), 3);
+    assert_eq!(rt; program.place_of(Handler::Timer), 0);
     assert_eq!(rt; stands(&program, 3), ("get", 2));
     assert_eq!(rt; stands(&program, 2), ("put", 1));
     assert_eq!(rt; stands(&program, 1), ("emit", 0));
@@ -400,8 +422,8 @@ fn two_handlers_as_steps(rt: HostRuntime) {
     };
     assert!(&rt; program.has_timer());
     assert_eq!(rt; program.locals(), 2);
-    assert_eq!(rt; program.first(), 1);
-    assert_eq!(rt; program.timer_first(), 4);
+    assert_eq!(rt; program.place_of(Handler::Row), 1);
+    assert_eq!(rt; program.place_of(Handler::Timer), 4);
     assert_eq!(rt; stands(&program, 1), ("timer", 0));
     assert_eq!(rt; stands(&program, 4), ("untimer", 3));
     assert_eq!(rt; stands(&program, 3), ("get", 2));
@@ -416,5 +438,29 @@ fn an_empty_timer_handler(rt: HostRuntime) {
         return;
     };
     assert!(&rt; program.has_timer());
-    assert_eq!(rt; program.timer_first(), 0);
+    assert_eq!(rt; program.place_of(Handler::Timer), 0);
+}
+
+#[test]
+fn blocks_as_steps(rt: HostRuntime) {
+    let text = "input 1; state l list; state m map; on row; if v1; add l 1; else; put m 2 , 3; end; each i in l; emit i; end; both; each k n in m; let x = k; end; with; put l 1 , 2; end; emit 9; end";
+    let Some(program) = program_of(rt.alloc(), text) else {
+        assert!(&rt; false);
+        return;
+    };
+    assert_eq!(rt; program.width(), 2);
+    assert_eq!(rt; program.locals(), 4);
+    let first = program.place_of(Handler::Row);
+    assert_eq!(rt; stands(&program, first), ("if", 7));
+    let (one, other) = parts(&program, first);
+    assert_eq!(rt; stands(&program, one), ("other", 0));
+    assert_eq!(rt; stands(&program, other), ("put at", 0));
+    assert_eq!(rt; stands(&program, 7), ("each", 5));
+    assert_eq!(rt; stands(&program, parts(&program, 7).0), ("emit", 0));
+    assert_eq!(rt; stands(&program, 5), ("both", 1));
+    let (one, two) = parts(&program, 5);
+    assert_eq!(rt; stands(&program, one), ("each", 0));
+    assert_eq!(rt; stands(&program, parts(&program, one).0), ("let", 0));
+    assert_eq!(rt; stands(&program, two), ("put all", 0));
+    assert_eq!(rt; stands(&program, 1), ("emit", 0));
 }
