@@ -29,7 +29,7 @@ use Rattle.ax_lang.specs.declared.program.Program.{Program as CodeProgram}
 use Rattle.ax_lang.specs.Shown.{shown_program, text_from}
 use Rattle.ax_plain.specs.declared.agenda.Due.{Due}
 use Rattle.ax_plain.specs.declared.handler.RunFacts.{RunFacts}
-use Rattle.ax_plain.specs.Agenda.{due, timer_of, Lists, without, NoneFires, IsFirstDue, Puts}
+use Rattle.ax_plain.specs.Agenda.{shown_due, timer_of, Lists, without, NoneFires, IsFirstDue, Puts}
 use Rattle.ax_plain.specs.Handler.{shown_run_facts}
 use Rattle.ax_base.specs.Outside.{AppendsSome}
 use Rattle.ax_plain.specs.Plain.{Held, cells_or, map_of, Fits, run_at}
@@ -97,7 +97,7 @@ own_least w (suc n) k (t ∷ ts) d e = by_due (int_le t w) e where
   by_due false h = absurd (cc)
 
 pub least_is : (w : ℤ) (more : Key → ℕ) (times : Key → List ℤ) (d : Due) (n : ℕ) → IsFirstDue w more times d n → least_time (times d.key) ≡ Some d.time
-least_is w more times d n next = own_least w (more d.key) d.key (times d.key) (due d) next.is
+least_is w more times d n next = own_least w (more d.key) d.key (times d.key) (shown_due d) next.is
 
 -- ---- all firings of a watermark
 
@@ -141,36 +141,36 @@ module _ (p : Program) (whole : Plain) (h0 h : Option (List ℕ)) (s : Plain) (a
 
   -- a timer fires
   module _ (d : Due) (n : ℕ) (known : list_any (bytes_eq d.key) s.keys ≡ true) (next : IsFirstDue s.wm g.more (λ k. (s.map k).times) d n) where
-    far : (less : ℕ) × (fire_all p g.fuel g.more (said g.written s) ≡ fire_all p less (one_less g.more d.key) (fire p (due d) (said g.written s))) × (total s.keys (one_less g.more d.key) ≤ less)
-    far = fire_all_next p g.fuel g.more (said g.written s) (due d) (pops_next s.wm g.more s.map (λ k. (s.map k).times) (λ k. refl) s.keys d n known next) g.enough
+    far : (less : ℕ) × (fire_all p g.fuel g.more (said g.written s) ≡ fire_all p less (one_less g.more d.key) (fire p (shown_due d) (said g.written s))) × (total s.keys (one_less g.more d.key) ≤ less)
+    far = fire_all_next p g.fuel g.more (said g.written s) (shown_due d) (pops_next s.wm g.more s.map (λ k. (s.map k).times) (λ k. refl) s.keys d n known next) g.enough
 
     -- what is written behind it
     tail : List Entry
-    tail = (fire_all p far.0 (one_less g.more d.key) (silent (fire p (due d) (said g.written s)))).entries
+    tail = (fire_all p far.0 (one_less g.more d.key) (silent (fire p (shown_due d) (said g.written s)))).entries
 
-    whole_text : text_of g.written ++ (text_of (fire p (due d) (said [] s)).entries ++ text_of tail) ≡ text_of whole.entries
+    whole_text : text_of g.written ++ (text_of (fire p (shown_due d) (said [] s)).entries ++ text_of tail) ≡ text_of whole.entries
     unfolding tail
     whole_text =
-        let now : List Entry = (fire p (due d) (said [] s)).entries in
+        let now : List Entry = (fire p (shown_due d) (said [] s)).entries in
         sym (append_assoc (text_of g.written) (text_of now) (text_of tail))
         ∙ ap (λ x. x ++ text_of tail) (sym (text_of-append g.written now))
         ∙ sym (text_of-append (g.written ++ now) tail)
-        ∙ ap (λ (x : Plain). text_of x.entries) (sym (fire_all_writes p far.0 (one_less g.more d.key) (fire p (due d) (said g.written s))) ∙ sym far.1 ∙ g.rest)
+        ∙ ap (λ (x : Plain). text_of x.entries) (sym (fire_all_writes p far.0 (one_less g.more d.key) (fire p (shown_due d) (said g.written s))) ∙ sym far.1 ∙ g.rest)
 
-    pub firing_failed : (h' : Option (List ℕ)) → AppendsSome h h' (text_of (fire p (due d) (said [] s)).entries) → AppendsSome h0 h' (text_of whole.entries)
-    firing_failed h' a = AppendsSome-behind h0 h h' (text_of g.written) (text_of (fire p (due d) (said [] s)).entries) (text_of tail) (text_of whole.entries) g.grown a whole_text
+    pub firing_failed : (h' : Option (List ℕ)) → AppendsSome h h' (text_of (fire p (shown_due d) (said [] s)).entries) → AppendsSome h0 h' (text_of whole.entries)
+    firing_failed h' a = AppendsSome-behind h0 h h' (text_of g.written) (text_of (fire p (shown_due d) (said [] s)).entries) (text_of tail) (text_of whole.entries) g.grown a whole_text
 
     -- the firing was written, and then there was no memory
-    pub firing_cut : (h' : Option (List ℕ)) → Appends h h' (text_of (fire p (due d) (said [] s)).entries) → AppendsSome h0 h' (text_of whole.entries)
-    firing_cut h' a = firing_failed h' (AppendsSome-all h h' (text_of (fire p (due d) (said [] s)).entries) a)
+    pub firing_cut : (h' : Option (List ℕ)) → Appends h h' (text_of (fire p (shown_due d) (said [] s)).entries) → AppendsSome h0 h' (text_of whole.entries)
+    firing_cut h' a = firing_failed h' (AppendsSome-all h h' (text_of (fire p (shown_due d) (said [] s)).entries) a)
 
     -- and the key is put back
-    pub went_on : (h' : Option (List ℕ)) (s' : Plain) (left agenda' : List (Due × ℕ)) (least : Option ℤ) → s' ≡ silent (fire p (due d) (said [] s))
-        → Appends h h' (text_of (fire p (due d) (said [] s)).entries)
+    pub went_on : (h' : Option (List ℕ)) (s' : Plain) (left agenda' : List (Due × ℕ)) (least : Option ℤ) → s' ≡ silent (fire p (shown_due d) (said [] s))
+        → Appends h h' (text_of (fire p (shown_due d) (said [] s)).entries)
         → Lists s.wm (without d.key g.more) (λ k. (s.map k).times) left → least ≡ least_time (s'.map d.key).times → Puts s.wm d.key least (n - 1) left agenda'
         → Firing p whole h0 h' s' agenda'
     went_on h' s' left agenda' least stands a lists first puts =
-        let now : List Entry = (fire p (due d) (said [] s)).entries in
+        let now : List Entry = (fire p (shown_due d) (said [] s)).entries in
         let others : (q : Key) → bytes_eq d.key q ≡ false → (s'.map q).times ≡ (s.map q).times = (λ q e. ap (λ (x : Plain). (x.map q).times) stands ∙ other q e) in
         let F : Plain → Type 0 = λ x. total x.keys (one_less g.more d.key) ≤ far.0 in
         let L : ℤ → Type 0 = λ w. Lists w (one_less g.more d.key) (λ k. (s'.map k).times) agenda' in
@@ -184,7 +184,7 @@ module _ (p : Program) (whole : Plain) (h0 h : Option (List ℕ)) (s : Plain) (a
           lists = subst L (sym (ap (λ (x : Plain). x.wm) stands)) (put_back s.wm d.key g.more (λ k. (s.map k).times) (λ k. (s'.map k).times) n least left agenda' others next.left first lists puts);
         }
       where
-        other : (q : Key) → bytes_eq d.key q ≡ false → ((fire p (due d) (said [] s)).map q).times ≡ (s.map q).times
+        other : (q : Key) → bytes_eq d.key q ≡ false → ((fire p (shown_due d) (said [] s)).map q).times ≡ (s.map q).times
         other q e = ap (λ (b : Bool). (cond b (state_after (without_least (s.map d.key)) (job_run p (firing_job s.wm d.time) (s.map d.key).cells)) (s.map q)).times) e
 
 -- ---- the line of the watermark
