@@ -29,7 +29,7 @@ pub record Good (g : Going) : Type 0 where
   pub split : Split g.control
   pub blank : Blank (slots g.control) g.answers
 
-slot_waits : (c : Control) (n : ℕ) (q : Request) → request_at c n ≡ Some q → has n (slots c) ≡ true
+pub slot_waits : (c : Control) (n : ℕ) (q : Request) → request_at c n ≡ Some q → has n (slots c) ≡ true
 slot_waits Done n q e = absurd (none_some e)
 slot_waits (Wait s r x k) n q e = by_cases (nat_eq n s) (λ y. rw y refl) (λ y. absurd (none_some (rw y at e)))
 slot_waits (Arms one two k) n q e = by_cases (has n (slots one))

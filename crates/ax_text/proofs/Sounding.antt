@@ -15,6 +15,7 @@ use Rattle.ax_text.proofs.Steps.{Goes, IsStep, IsGiven, after_talk, begin_ok, gi
 use Rattle.ax_text.proofs.Accepting.{accepted_fits}
 use Rattle.ax_text.proofs.Wide.{begin_wide, give_in_wide}
 use Rattle.ax_text.proofs.LowSlots.{start_low, give_low}
+use Rattle.ax_text.proofs.Wakeful.{begin_wakes, give_wakes}
 use Rattle.ax_text.proofs.Suiting.{text_suits, begin_suits, give_suits}
 
 module _ (n : ℕ) (kinds : List Kind) (f : Facts) where
@@ -30,6 +31,7 @@ module _ (n : ℕ) (kinds : List Kind) (f : Facts) where
         wide = wide;
         low = start_low f n k t wide;
         suits = begin_suits kinds f k [] t (text_suits fields locals kinds text h, tt);
+        wakeful = begin_wakes f k [] t;
       }
 
   pub give_sound : (c : Control) (s : ℕ) (a : Answer) (t : Talk) → GivesSound n kinds f c s a t
@@ -43,4 +45,5 @@ module _ (n : ℕ) (kinds : List Kind) (f : Facts) where
         wide = wide;
         low = give_low f n c s a t h.low m wide;
         suits = give_suits kinds f c s a t h.suits;
+        wakeful = give_wakes f c s a t h.wakeful;
       }

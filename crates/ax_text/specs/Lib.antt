@@ -17,3 +17,4 @@ pub mod Rows
 pub mod Widths
 pub mod Suits
 pub mod Sound
+pub mod Silent

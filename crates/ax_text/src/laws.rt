@@ -1,5 +1,5 @@
 //! Laws of handlers. Each is what an empty function ensures.
-ghost use Rattle.std.specs.Prelude.{◌≡◌, ℕ, List, [], ◌∷◌, true, Some};
+ghost use Rattle.std.specs.Prelude.{◌≡◌, ℕ, List, [], ◌∷◌, true, false, Some};
 ghost use Rattle.ax_text.specs.declared.vocabulary.Answer.{Answer as AnyAnswer};
 ghost use Rattle.ax_text.specs.declared.vocabulary.Request.{Request as AnyRequest};
 ghost use Rattle.ax_text.specs.declared.vocabulary.Kind.{Kind};
@@ -7,10 +7,11 @@ ghost use Rattle.ax_text.specs.Exprs.{Facts};
 ghost use Rattle.ax_text.specs.Cells.{Cells};
 ghost use Rattle.ax_text.specs.Texts.{Text};
 ghost use Rattle.ax_text.specs.Programs.{width};
-ghost use Rattle.ax_text.specs.Run.{Talk};
-ghost use Rattle.ax_text.specs.Controls.{Control, Cursor, Event, waiting, request_at};
+ghost use Rattle.ax_text.specs.Run.{Talk, World};
+ghost use Rattle.ax_text.specs.Controls.{Control, Done, Cursor, Event, Going, slots, waiting, is_done, request_at};
 ghost use Rattle.ax_text.specs.Suits.{Suits, AsksSuit, fits_in};
-ghost use Rattle.ax_text.specs.Sound.{BeginsSound, GivesSound};
+ghost use Rattle.ax_text.specs.Sound.{Split, IsWakeful, IsWaiting, BeginsSound, GivesSound};
+ghost use Rattle.ax_text.specs.Silent.{BeginTells, GiveTells, StepsSilently, BeginsAtOnce, ServesAtOnce, ServesMore};
 ghost use Rattle.ax_text.specs.Futures.{ComesToRun, EndsAsRun, StaysWithin, AsksAtBegin, AsksAtGive};
 ghost use Rattle.ax_text.specs.Rows.{Row, IsAccepted, follow, widened_by, now_of, text_of, wide, Body};
 
@@ -32,7 +33,7 @@ pub fn waits_within_the_width()
     ensures { (f : Facts) (t : Text) (cells : Cells) (events : List Event) → StaysWithin f t cells events }
 {}
 
-/// A control of an accepted text is sound: its arms are apart and wait at different slots, at most `n` requests are out at once, at slots below `n`, and each request that waits, now or later, is to a state that exists, and of a kind that serves it. It begins so, where the text fits and is at most `n` wide, and an answer keeps it so.
+/// A control of an accepted text is sound: its arms are apart and wait at different slots, at most `n` requests are out at once, at slots below `n`, each request that waits, now or later, is to a state that exists, and of a kind that serves it, and it waits unless it is done. It begins so, where the text fits and is at most `n` wide, and an answer keeps it so.
 pub fn controls_stay_sound()
     ensures begin { (n : ℕ) (kinds : List Kind) (f : Facts) (fields locals : ℕ) (text : Text) (t : Talk) → BeginsSound n kinds f fields locals text t }
     ensures give { (n : ℕ) (kinds : List Kind) (f : Facts) (c : Control) (s : ℕ) (a : AnyAnswer) (t : Talk) → GivesSound n kinds f c s a t }
@@ -45,11 +46,33 @@ pub fn requests_suit_their_states()
     ensures at { (kinds : List Kind) (c : Control) (s : ℕ) (r : AnyRequest) → Suits kinds c → request_at c s ≡ Some r → fits_in kinds r ≡ true }
 {}
 
+/// A control that is not done waits for an answer, and one where no slot waits is done.
+#[tactic(auto, using(crate::proofs::Wakeful::waits_for, crate::proofs::Wakeful::none_waits))]
+pub fn done_where_nothing_waits()
+    ensures waits { (c : Control) → IsWakeful c → Split c → is_done c ≡ false → IsWaiting c }
+    ensures done { (c : Control) → IsWakeful c → slots c ≡ [] → c ≡ Done }
+{}
+
 /// What a callback asks is what waits behind it and did not before.
 #[tactic(auto, using(crate::proofs::Asked::begin_asked, crate::proofs::Asked::give_asked))]
 pub fn asks_are_what_waits()
     ensures begin { (f : Facts) (k : Cursor) (used : List ℕ) (t : Talk) → AsksAtBegin f k used t }
     ensures give { (f : Facts) (c : Control) (s : ℕ) (a : AnyAnswer) (t : Talk) → AsksAtGive f c s a t }
+{}
+
+/// What was said before makes no difference to a callback: from nothing said it leaves the same, and what it says comes behind. So a program may begin each callback with nothing said.
+#[tactic(auto, using(crate::proofs::Telling::begin_tells, crate::proofs::Telling::give_tells, crate::proofs::Telling::steps_silently))]
+pub fn callbacks_say_behind()
+    ensures begin { (f : Facts) (k : Cursor) (used : List ℕ) (t : Talk) → BeginTells f k used t }
+    ensures give { (f : Facts) (c : Control) (s : ℕ) (a : AnyAnswer) (t : Talk) → GiveTells f c s a t }
+    ensures step { (f : Facts) (s : ℕ) (a : AnyAnswer) (g : Going) → StepsSilently f s a g }
+{}
+
+/// A program that serves each request and gives its answer at once, each callback from nothing said, comes to the run of an accepted text. While a request waits, fewer requests were served than the run serves.
+pub fn answered_at_once_comes_to_the_run()
+    ensures begin { (f : Facts) (text : Text) (cells : Cells) → BeginsAtOnce f text cells }
+    ensures serve { (n : ℕ) (kinds : List Kind) (f : Facts) (c : Control) (s : ℕ) (r : AnyRequest) (w : World) → ServesAtOnce n kinds f c s r w }
+    ensures more { (n : ℕ) (kinds : List Kind) (f : Facts) (c : Control) (s : ℕ) (r : AnyRequest) (w : World) → ServesMore n kinds f c s r w }
 {}
 
 /// Lines of a handler that pass the tests of arms one after another make a text whose arms are silent and apart.
