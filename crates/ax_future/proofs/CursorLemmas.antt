@@ -2,7 +2,7 @@
 use Rattle.std.proofs.Common.{◌≡◌, max, List, [], ◌∷◌, ◌++◌, refl, sym, ◌∙◌, append_assoc, ap, arith}
 use Rattle.std.proofs.lemmas.List.{append-nil}
 use Rattle.ax_text.specs.Controls.{Cursor}
-use Rattle.ax_future.specs.declared.program.Program.{Program}
+use Rattle.ax_lang.specs.declared.program.Program.{Program}
 use Rattle.ax_future.specs.declared.node.Frame.{Frame as CodeFrame}
 use Rattle.ax_future.specs.Nodes.{frame_in, cursor_in, place_of, highest}
 

@@ -1,8 +1,6 @@
-pub mod TableLemmas
 pub mod TalkLemmas
 pub mod CursorLemmas
 pub mod WayLemmas
 pub mod MoveLemmas
 pub mod BeginLemmas
 pub mod AnswerLemmas
-pub mod MachineLemmas

@@ -6,15 +6,24 @@ use Rattle.ax_text.specs.Texts.{Text}
 use Rattle.ax_text.specs.Programs.{width}
 use Rattle.ax_text.specs.Run.{Talk}
 use Rattle.ax_text.specs.Controls.{Rest, Cursor, Next, Turn, slots, least_free, waits, joined, begin}
-use Rattle.ax_future.specs.declared.program.Program.{Program}
+use Rattle.ax_lang.specs.declared.program.Program.{Program}
 use Rattle.ax_future.specs.declared.moves.Move.{Move}
 use Rattle.ax_future.specs.declared.moves.Move.TheVariants as move
 use Rattle.ax_future.specs.declared.node.Node.{Node}
 use Rattle.ax_future.specs.declared.going.Going.{Going}
-use Rattle.ax_future.specs.Shown.{text_from}
+use Rattle.ax_lang.specs.Forms.{Form, Acts, Asks as AsksOnce, Branches, Repeats, Splits as SplitsIn}
+use Rattle.ax_lang.specs.Shown.{text_from}
 use Rattle.ax_future.specs.Sizes.{sizes, cursor_width}
 use Rattle.ax_future.specs.Nodes.{next_in, control_in}
 use Rattle.ax_future.specs.Talks.{talk_of, asks_in}
+
+-- a statement that names no places
+abbrev pub IsPlain : Form → Type 0
+IsPlain (Acts q) = Unit {0}
+IsPlain (AsksOnce a) = Unit {0}
+IsPlain (Branches e one other) = ⊥
+IsPlain (Repeats l body) = ⊥
+IsPlain (SplitsIn one two) = ⊥
 
 -- it goes on, and nears its end
 pub record Goes (f : Facts) (k k' : Cursor) (t t' : Talk) : Type 0 where

@@ -4,7 +4,7 @@ use Rattle.ax_text.specs.Run.{After}
 use Rattle.ax_text.specs.Run as run
 use Rattle.ax_text.specs.Controls.{Frame, Cursor, Next, Control}
 use Rattle.ax_text.specs.Controls as control
-use Rattle.ax_future.specs.declared.program.Program.{Program}
+use Rattle.ax_lang.specs.declared.program.Program.{Program}
 use Rattle.ax_future.specs.declared.node.Frame.{Frame as CodeFrame}
 use Rattle.ax_future.specs.declared.node.Frame.TheVariants as frame
 use Rattle.ax_future.specs.declared.node.Assign.{Assign}
@@ -13,8 +13,8 @@ use Rattle.ax_future.specs.declared.node.Next.{Next as CodeNext}
 use Rattle.ax_future.specs.declared.node.Next.TheVariants as next
 use Rattle.ax_future.specs.declared.node.Node.{Node}
 use Rattle.ax_future.specs.declared.node.Node.TheVariants as node
-use Rattle.ax_future.specs.Forms.{shown_loop}
-use Rattle.ax_future.specs.Shown.{text_from}
+use Rattle.ax_lang.specs.Forms.{shown_loop}
+use Rattle.ax_lang.specs.Shown.{text_from}
 
 abbrev pub frame_in : Program → CodeFrame → Frame
 frame_in p (frame.Rest place) = control.Rest (text_from p place)

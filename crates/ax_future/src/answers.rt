@@ -3,18 +3,19 @@ ghost use Rattle.std.specs.Prelude.{◌≡◌, ◌≤◌, ◌+◌, ◌++◌, [],
 ghost use Rattle.ax_text.specs.Run.{with_names, take_in, turns_of, number_or};
 ghost use Rattle.ax_text.specs.Prints.{has};
 ghost use Rattle.ax_text.specs.Controls.{slots, also, begin, joined, resume, give_in, without};
-ghost use Rattle.ax_future.specs.declared.program.Program.{Program as AnyProgram};
+ghost use Rattle.ax_lang.specs.declared.program.Program.{Program as AnyProgram};
 ghost use Rattle.ax_future.specs.Sizes.{cursor_width, next_width, control_width};
 ghost use Rattle.ax_future.specs.Nodes.{cursor_in, next_in, after_in, control_in};
 ghost use Rattle.ax_future.specs.Talks.{facts_in, talk_of, asks_in, turn_pair};
 ghost use Rattle.ax_future.specs.Moves.{turn_of};
 
 use crate::begin::{are_done, begin};
-use crate::going::{Facts, Going, assign};
+use crate::callback::Facts;
+use crate::going::{Going, assign};
 use crate::moves::put;
-use crate::node::{Assign, Frame, Next, Node};
+use crate::node::{Assign, Cursor, Frame, Next, Node};
 use crate::nodes::arms;
-use crate::program::Program;
+use ax_lang::Program;
 use ax_base::{NoMemory, Pair, Pairs};
 use ax_text::Answer;
 use std::alloc::Global;
@@ -31,11 +32,11 @@ fn number_or(answer: &Answer, missing: i64) -> i64
 }
 
 // A local name takes an answer.
-fn take_in(going: &mut Going, after: Assign, answer: &Answer) -> Result<(), NoMemory>
-    ensures talk { OnOk result (talk_of going.new ≡ with_names (take_in (after_in after) answer.now (talk_of going.old).names) (talk_of going.old)) }
+fn take_in(going: &mut Going, to: Assign, answer: &Answer) -> Result<(), NoMemory>
+    ensures talk { OnOk result (talk_of going.new ≡ with_names (take_in (after_in to) answer.now (talk_of going.old).names) (talk_of going.old)) }
     ensures asks { going.new.asks ≡ going.old.asks }
 {
-    match after {
+    match to {
         Assign::Name { name, missing } => {
             let number = number_or(answer, missing);
             assign(&mut going.names, name, number)
@@ -77,15 +78,15 @@ fn resume(
     used: &[u8],
     next: Next,
     answer: Answer,
-    cursor: Vec<Frame>,
+    cursor: Cursor,
     going: &mut Going,
 ) -> Result<Node, NoMemory>
     requires { length used.now + max (next_width (next_in program.now next)) (cursor_width (cursor_in program.now cursor.items)) ≤ 256 }
     ensures { IfOk result (λ node. also (asks_in going.old.asks) (resume (facts_in facts.now) (next_in program.now next) answer (cursor_in program.now cursor.items) used.now (talk_of going.old)) ≡ turn_of program.now going.new node) }
 {
     match next {
-        Next::Take { after } => {
-            take_in(going, after, &answer)?;
+        Next::Take { assign } => {
+            take_in(going, assign, &answer)?;
             let node = begin(alloc, program, facts, used, cursor, going)?;
             Ok(node)
         }
@@ -115,7 +116,7 @@ fn join(
     used: &[u8],
     one: Node,
     two: Node,
-    cursor: Vec<Frame>,
+    cursor: Cursor,
     going: &mut Going,
 ) -> Result<Node, NoMemory>
     requires { length used.now + cursor_width (cursor_in program.now cursor.items) ≤ 256 }

@@ -1,19 +1,20 @@
 //! How a handler begins, and goes on.
 ghost use Rattle.std.specs.Prelude.{◌≡◌, ◌≤◌, ◌<◌, ◌+◌, ◌++◌, ◌∷◌, [], ◌&&◌, length, IfOk, OnOk};
 ghost use Rattle.ax_text.specs.Controls.{Rest, slots, is_done, least_free, waits, also, begin};
-ghost use Rattle.ax_future.specs.declared.program.Program.{Program as AnyProgram};
-ghost use Rattle.ax_future.specs.Shown.{text_from};
+ghost use Rattle.ax_lang.specs.declared.program.Program.{Program as AnyProgram};
+ghost use Rattle.ax_lang.specs.Shown.{text_from};
 ghost use Rattle.ax_future.specs.Sizes.{cursor_width};
 ghost use Rattle.ax_future.specs.Nodes.{cursor_in, next_in, control_in, highest};
 ghost use Rattle.ax_future.specs.Talks.{facts_in, talk_of, asks_in};
 ghost use Rattle.ax_future.specs.Moves.{turn_of};
 
 use crate::fresh::least_free;
-use crate::going::{Ask, Facts, Going};
+use crate::callback::{Ask, Facts};
+use crate::going::Going;
 use crate::moves::{Move, advance, put};
-use crate::node::{Frame, Next, Node};
-use crate::nodes::{arms, compose};
-use crate::program::Program;
+use crate::node::{Cursor, Frame, Next, Node};
+use crate::nodes::{arms, asking, compose};
+use ax_lang::Program;
 use ax_base::{Duplicate, NoMemory};
 use ax_text::Request;
 use std::alloc::Global;
@@ -26,7 +27,7 @@ pub fn begin(
     program: &Program,
     facts: &Facts,
     used: &[u8],
-    cursor: Vec<Frame>,
+    cursor: Cursor,
     going: &mut Going,
 ) -> Result<Node, NoMemory>
     requires { length used.now + cursor_width (cursor_in program.now cursor.items) ≤ 256 }
@@ -57,30 +58,25 @@ fn wait(
     used: &[u8],
     request: Request,
     next: Next,
-    cursor: Vec<Frame>,
+    cursor: Cursor,
     going: &mut Going,
 ) -> Result<Node, NoMemory>
     requires { length used.now < 256 }
     ensures { IfOk result (λ node. (p : AnyProgram) → also (asks_in going.old.asks) (waits (least_free used.now) request (next_in p next) (cursor_in p cursor.items) (talk_of going.old)) ≡ turn_of p going.new node) }
 {
     let slot = least_free(used);
-    let asked = request.copy(alloc)?;
+    let copied = request.copy(alloc)?;
     going.asks.push(Ask {
         slot,
-        request: asked,
+        request: copied,
     })?;
-    let first = Node::Wait {
-        slot,
-        request,
-        next,
-        cursor: Vec::new(alloc),
-    };
+    let first = asking(alloc, slot, request, next)?;
     let node = compose(alloc, first, cursor)?;
     Ok(node)
 }
 
 /// The text from a place on.
-pub fn only(alloc: Global, place: usize) -> Result<Vec<Frame>, NoMemory>
+pub fn only(alloc: Global, place: usize) -> Result<Cursor, NoMemory>
     ensures cursor { IfOk result (λ cursor. (p : AnyProgram) → cursor_in p cursor.items ≡ Rest (text_from p place) ∷ []) }
     ensures highest { IfOk result (λ cursor. highest cursor.items ≡ place) }
 {

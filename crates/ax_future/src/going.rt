@@ -5,49 +5,33 @@ ghost use Rattle.ax_text.specs.Exprs.{value};
 ghost use Rattle.ax_text.specs.Functions.{upd};
 ghost use Rattle.ax_text.specs.Run.{with_names, bind, take_in, Assign as AssignTo, Ignore as IgnoreIt};
 ghost use Rattle.ax_expr.specs.Shown.{shown_expr};
-ghost use Rattle.ax_future.specs.Forms.{form_of, shown_loop};
+ghost use Rattle.ax_lang.specs.Forms.{form_of, shown_loop};
 ghost use Rattle.ax_future.specs.Nodes.{after_in};
 ghost use Rattle.ax_future.specs.Talks.{names_at, facts_in, talk_of, act_by, question_by, question_in, seen_question};
 
+use crate::callback::{Asks, Facts, Outs, TimerOps};
 use crate::node::Assign;
-use crate::program::{Loop, Stmt};
-use ax_base::{ListOf, NoMemory, Nums, Pair};
+use ax_base::{NoMemory, Nums, Pair};
 use ax_expr::{Expr, Scope};
-use ax_text::{Answer, Request, TimerOp};
+use ax_lang::{Loop, Stmt};
+use ax_text::{Request, TimerOp};
+
 use std::alloc::Global;
-
-/// What a handler knows besides the state of its key.
-#[derive(Drop)]
-pub struct Facts {
-    /// The time of the row, or of the timer.
-    pub time: i64,
-    /// The greatest watermark before the row, or the one that fires.
-    pub wm: i64,
-    /// The values of the row.
-    pub values: Nums,
-}
-
-/// A request that is out, and the slot that waits for its answer.
-#[derive(Drop)]
-pub struct Ask {
-    pub slot: u8,
-    pub request: Request,
-}
 
 /// The local names' numbers, and what was said since the callback began.
 #[derive(Drop)]
 pub struct Going {
     pub names: Vec<i64>,
-    pub asks: ListOf<Ask>,
-    pub outs: ListOf<Nums>,
-    pub timer_ops: ListOf<TimerOp>,
+    pub asks: Asks,
+    pub outs: Outs,
+    pub timer_ops: TimerOps,
 }
 
 /// What a statement asks, and what becomes of the answer.
 #[derive(Drop)]
 pub struct Question {
     pub request: Request,
-    pub after: Assign,
+    pub assign: Assign,
 }
 
 /// Sets the number of a local name. One that was never set counts as 0.
@@ -235,7 +219,7 @@ fn assigned(request: Request, name: usize, missing: i64) -> Question
 {
     Question {
         request,
-        after: Assign::Name { name, missing },
+        assign: Assign::Name { name, missing },
     }
 }
 
@@ -245,6 +229,6 @@ fn ignored(request: Request) -> Question
 {
     Question {
         request,
-        after: Assign::Ignore,
+        assign: Assign::Ignore,
     }
 }

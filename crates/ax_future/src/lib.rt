@@ -1,18 +1,27 @@
 //! Handlers as data: where a handler stands, and how it goes on.
+//!
+//! A `Machine` is a handler on its way. `start` runs it until each live arm waits for an answer or has ended, and
+//! `resume` gives one answer and runs on. What it has left to do is a `Node`, which `then`, `compose` and `combine` put
+//! together: the state futures of Flink (FLIP-424) as data.
+//!
+//! - `callback`: what a callback knows, asks and says.
+//! - `node` and `nodes`: where a handler stands, and the three ways to put nodes together.
+//! - `going`, `moves` and `begin`: statements, one step, and all steps until it waits.
+//! - `answers` and `machine`: how an answer is taken.
 #![tactic(auto)]
 
-pub mod answers;
-pub mod begin;
-pub mod fresh;
-pub mod going;
-pub mod machine;
-pub mod moves;
-pub mod node;
-pub mod nodes;
-pub mod program;
+mod answers;
+mod begin;
+mod callback;
+mod fresh;
+mod going;
+// mod machine;
+mod moves;
+mod node;
+mod nodes;
 
-pub use going::{Ask, Facts, Going};
-pub use machine::{Machine, Turn};
-pub use node::{Assign, Frame, Next, Node};
+pub use ax_text::{Handler, TimerOp};
+pub use callback::{Ask, Asks, Facts, Outs, TimerOps, Turn};
+// pub use machine::Machine;
+pub use node::{Assign, Cursor, Frame, Next, Node};
 pub use nodes::{combine, compose, then};
-pub use program::{Loop, Step, Stmt, Program};

@@ -3,17 +3,18 @@ ghost use Rattle.std.specs.Prelude.{◌≡◌, ◌≤◌, ◌<◌, drop, length,
 ghost use Rattle.ax_text.specs.Exprs.{Facts as AnyFacts};
 ghost use Rattle.ax_text.specs.Controls.{Rest, Turns};
 ghost use Rattle.ax_text.specs.Run.{loop_request};
-ghost use Rattle.ax_future.specs.declared.program.Program.{Program as AnyProgram};
-ghost use Rattle.ax_future.specs.Forms.{form_of, text_with, top_of, shown_loop, IsPlain, Branches};
-ghost use Rattle.ax_future.specs.Shown.{text_from};
+ghost use Rattle.ax_lang.specs.declared.program.Program.{Program as AnyProgram};
+ghost use Rattle.ax_lang.specs.Forms.{form_of, text_with, top_of, shown_loop, Branches};
+ghost use Rattle.ax_lang.specs.Shown.{text_from};
 ghost use Rattle.ax_expr.specs.Shown.{shown_expr};
 ghost use Rattle.ax_future.specs.Nodes.{frame_in, cursor_in, place_of, highest};
 ghost use Rattle.ax_future.specs.Talks.{facts_in, talk_of};
-ghost use Rattle.ax_future.specs.Moves.{Moves, above};
+ghost use Rattle.ax_future.specs.Moves.{IsPlain, Moves, above};
 
-use crate::going::{Facts, Going};
-use crate::node::{Frame, Next};
-use crate::program::{Loop, Step, Stmt, Program};
+use crate::callback::Facts;
+use crate::going::Going;
+use crate::node::{Cursor, Frame, Next};
+use ax_lang::{Loop, Program, Step, Stmt};
 use ax_base::{NoMemory, Pair, Pairs};
 use ax_expr::Expr;
 use ax_text::Request;
@@ -34,7 +35,7 @@ pub enum Move {
 
 /// Puts a frame in front of what is still to be run.
 #[tactic(auto, using(crate::proofs::CursorLemmas::cursor_more, crate::proofs::CursorLemmas::highest_more))]
-pub fn put(cursor: &mut Vec<Frame>, frame: Frame) -> Result<(), NoMemory>
+pub fn put(cursor: &mut Cursor, frame: Frame) -> Result<(), NoMemory>
     ensures cursor { OnOk result ((p : AnyProgram) → cursor_in p cursor.new.items ≡ frame_in p frame ∷ cursor_in p cursor.old.items) }
     ensures highest { OnOk result (highest cursor.new.items ≡ max (highest cursor.old.items) (place_of frame)) }
 {
@@ -59,7 +60,7 @@ fn take_plain(
     alloc: Global,
     facts: &Facts,
     step: &Step,
-    cursor: &mut Vec<Frame>,
+    cursor: &mut Cursor,
     going: &mut Going,
 ) -> Result<Move, NoMemory>
     requires { IsPlain (form_of step.now.stmt) }
@@ -73,7 +74,7 @@ fn take_plain(
         Some(question) => Ok(Move::Wait {
             request: question.request,
             next: Next::Take {
-                after: question.after,
+                assign: question.assign,
             },
         }),
         None => {
@@ -89,7 +90,7 @@ fn take_branch(
     going: &Going,
     test: &Expr,
     parts: &Parts,
-    cursor: &mut Vec<Frame>,
+    cursor: &mut Cursor,
 ) -> Result<Move, NoMemory>
     ensures moves { IfOk result (λ m. (p : AnyProgram) → Moves (facts_in facts.now) p (Rest (text_with (text_from p) (Branches (shown_expr test.now) parts.now.one parts.now.other) parts.now.next) ∷ cursor_in p cursor.old.items) (cursor_in p cursor.new.items) (talk_of going.now) (talk_of going.now) m) }
     ensures places { OnOk result (highest cursor.new.items ≤ max (highest cursor.old.items) (max parts.now.next (max parts.now.one parts.now.other))) }
@@ -118,7 +119,7 @@ fn take_step(
     alloc: Global,
     facts: &Facts,
     step: &Step,
-    cursor: &mut Vec<Frame>,
+    cursor: &mut Cursor,
     going: &mut Going,
 ) -> Result<Move, NoMemory>
     ensures moves { IfOk result (λ m. (p : AnyProgram) → Moves (facts_in facts.now) p (Rest (text_with (text_from p) (form_of step.now.stmt) step.now.next) ∷ cursor_in p cursor.old.items) (cursor_in p cursor.new.items) (talk_of going.old) (talk_of going.new) m) }
@@ -169,7 +170,7 @@ fn take_turn(
     turns: Pairs,
     at: usize,
     body: usize,
-    cursor: &mut Vec<Frame>,
+    cursor: &mut Cursor,
     going: &mut Going,
 ) -> Result<Move, NoMemory>
     ensures moves { IfOk result (λ m. (p : AnyProgram) (f : AnyFacts) → Moves f p (Turns (shown_loop turn) (drop at turns) (text_from p body) ∷ cursor_in p cursor.old.items) (cursor_in p cursor.new.items) (talk_of going.old) (talk_of going.new) m) }
@@ -200,7 +201,7 @@ fn take_frame(
     program: &Program,
     facts: &Facts,
     frame: Frame,
-    cursor: &mut Vec<Frame>,
+    cursor: &mut Cursor,
     going: &mut Going,
 ) -> Result<Move, NoMemory>
     ensures moves { IfOk result (λ m. Moves (facts_in facts.now) program.now (frame_in program.now frame ∷ cursor_in program.now cursor.old.items) (cursor_in program.now cursor.new.items) (talk_of going.old) (talk_of going.new) m) }
@@ -233,7 +234,7 @@ pub fn advance(
     alloc: Global,
     program: &Program,
     facts: &Facts,
-    cursor: &mut Vec<Frame>,
+    cursor: &mut Cursor,
     going: &mut Going,
 ) -> Result<Move, NoMemory>
     ensures moves { IfOk result (λ m. Moves (facts_in facts.now) program.now (cursor_in program.now cursor.old.items) (cursor_in program.now cursor.new.items) (talk_of going.old) (talk_of going.new) m) }

@@ -1,5 +1,5 @@
 //! Where a handler stands.
-use crate::program::Loop;
+use ax_lang::Loop;
 use ax_base::Pairs;
 use ax_text::Request;
 

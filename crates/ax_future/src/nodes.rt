@@ -3,7 +3,7 @@ ghost use Rattle.std.specs.Prelude.{◌≡◌, ◌++◌, [], IfOk, OnOk};
 ghost use Rattle.ax_text.specs.Exprs.{Facts as AnyFacts};
 ghost use Rattle.ax_text.specs.Run.{World};
 ghost use Rattle.ax_text.specs.Controls.{Answers, Arms, Wait as WaitsFor, taken_by, compose, combine, left, run_cursor};
-ghost use Rattle.ax_future.specs.declared.program.Program.{Program as AnyProgram};
+ghost use Rattle.ax_lang.specs.declared.program.Program.{Program as AnyProgram};
 ghost use Rattle.ax_future.specs.Nodes.{cursor_in, after_in, next_in, control_in};
 ghost use Rattle.ax_future.specs.Ways.{left_taken};
 
@@ -73,7 +73,7 @@ pub fn combine(alloc: Global, left: Node, right: Node) -> Result<Node, NoMemory>
 }
 
 /// A request that waits at a slot, and what becomes of its answer.
-pub fn asked(alloc: Global, slot: u8, request: Request, next: Next) -> Result<Node, NoMemory>
+pub fn asking(alloc: Global, slot: u8, request: Request, next: Next) -> Result<Node, NoMemory>
     ensures { IfOk result (λ node. (p : AnyProgram) → control_in p node ≡ WaitsFor slot request (next_in p next) []) }
 {
     match next {

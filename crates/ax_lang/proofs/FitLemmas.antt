@@ -3,13 +3,12 @@ use Rattle.std.proofs.Common.{◌≡◌, ℕ, ◌≤◌, List, [], ◌∷◌, re
 use Rattle.std.specs.List.{list_all}
 use Rattle.std.proofs.lemmas.Bool.{and_parts, and_from, lt-ltb, ltb-true}
 use Rattle.ax_text.specs.declared.vocabulary.Kind.{Kind}
-use Rattle.ax_text.specs.declared.vocabulary.Kind.TheVariants as kind
 use Rattle.ax_text.specs.declared.vocabulary.Atom.{Atom}
 use Rattle.ax_text.specs.declared.vocabulary.Atom.TheVariants as atom
 use Rattle.ax_text.specs.Exprs.{Expr, Leaf, Join}
-use Rattle.ax_text.specs.Texts.{Text, Stop, Let, Emit, Timer, Untimer, Get, GetAt, Has, Empty, Put, PutAt, PutAll, Add, Remove, Clear}
+use Rattle.ax_text.specs.Texts.{Let, Emit, Timer, Untimer, Get, GetAt, Has, Empty, Put, PutAt, PutAll, Add, Remove, Clear}
 use Rattle.ax_text.specs.Rows.{Row, ActRow, AskRow, IfRow, EachRow, BothRow, SecondRow, EndRow, Level, top, below, before, levels_of, text_of}
-use Rattle.ax_text.specs.Valid.{has_kind, atom_fits, expr_fits, exprs_fit, quiet_fits, asking_fits, loop_fits, text_fits, timer_fits}
+use Rattle.ax_text.specs.Valid.{atom_fits, expr_fits, exprs_fit, quiet_fits, asking_fits, loop_fits, text_fits, timer_fits}
 use Rattle.ax_lang.specs.declared.step.Row.{Row as CodeRow}
 use Rattle.std.specs.declared.alloc.Global.{Global}
 use Rattle.ax_lang.specs.Forms.{shown_row}

@@ -1,5 +1,5 @@
 -- Lines are put before those that are linked.
-use Rattle.std.proofs.Common.{◌≡◌, ◌∙◌, ℕ, suc, ◌+◌, ◌≤◌, List, [], ◌∷◌, ◌++◌, map, length, refl, sym, ap, subst, arith, length-append, true, ◌&&◌}
+use Rattle.std.proofs.Common.{◌≡◌, ◌∙◌, ℕ, suc, max, ◌≤◌, List, [], ◌∷◌, ◌++◌, map, length, refl, sym, ap, subst, arith, length-append, true, ◌&&◌}
 use Rattle.std.specs.List.{list_all}
 use Rattle.std.proofs.lemmas.Bool.{and_parts}
 use Rattle.std.proofs.lemmas.List.{map-append}
@@ -7,7 +7,7 @@ use Rattle.std.proofs.lemmas.List.Folds.{list_all-append}
 use Rattle.ax_text.specs.declared.vocabulary.Kind.{Kind}
 use Rattle.ax_text.specs.Exprs.{Expr}
 use Rattle.ax_text.specs.Texts.{Loop, Text, Stop, Act, Ask, If, Each, Both}
-use Rattle.ax_text.specs.Rows.{Row, SecondRow, EndRow, BothRow, IfRow, EachRow, Level, level, top, below, before, levels_of, text_of}
+use Rattle.ax_text.specs.Rows.{Row, SecondRow, EndRow, BothRow, IfRow, EachRow, Level, level, top, below, with_text, before, levels_of, text_of}
 use Rattle.ax_expr.specs.declared.tree.Expr.{Expr as CodeExpr}
 use Rattle.ax_expr.specs.Shown.{shown_expr}
 use Rattle.ax_lang.specs.declared.step.Loop.{Loop as CodeLoop}
@@ -17,8 +17,8 @@ use Rattle.ax_lang.specs.declared.step.Step.{Step}
 use Rattle.ax_lang.specs.declared.step.Row.{Row as CodeRow}
 use Rattle.ax_lang.specs.declared.link.Starts.{Starts}
 use Rattle.ax_lang.specs.Forms.{Form, Acts, Asks, Branches, Repeats, Splits, form_of, form_top, text_with, row_in, shown_loop, shown_row}
-use Rattle.ax_lang.specs.Steps.{row_fits, stmt_fits, steps_fit, text_at, GoesOn}
-use Rattle.ax_lang.specs.Links.{level_at, levels_at, AllUpTo, Taken, CanStand, Added, Linked, FitsWith}
+use Rattle.ax_lang.specs.Steps.{row_fits, steps_fit, text_at, GoesOn}
+use Rattle.ax_lang.specs.Links.{level_at, levels_at, AllUpTo, Taken, CanStand, Added, Linked}
 use Rattle.ax_lang.proofs.StepLemmas.{text_pushed, text_kept, text_end, fits_pushed}
 
 -- open blocks
@@ -57,7 +57,7 @@ none_taken : Taken [] (starts 0 0) []
 unfolding text_at
 none_taken = record { first = λ steps. refl; others = λ steps. refl; text = λ n h. omega arith; second = λ n h. omega arith; up = λ n h. tt }
 
-empty_list : {A : Type 0} (xs : List A) → length xs ≡ 0 → xs ≡ []
+pub empty_list : {A : Type 0} (xs : List A) → length xs ≡ 0 → xs ≡ []
 empty_list [] h = refl
 empty_list (x ∷ xs) h = absurd (omega arith)
 
@@ -87,11 +87,20 @@ added_here steps blocks s stmt h =
       fits = λ fields locals ks f g. fits_pushed steps step fields locals 0 ks f (omega arith) g;
     }
 
-pub added : (steps steps' : List Step) (blocks blocks' : List Starts) (s : Starts) (stmt : Stmt) → CanStand steps blocks s stmt
-    → steps' ≡ steps ++ record { stmt = stmt; next = s.text } ∷ [] → blocks' ≡ blocks ++ starts (length steps') s.second ∷ [] → Added steps blocks s stmt steps' blocks'
-added steps steps' blocks blocks' s stmt h e f =
-    subst (λ (os : List Starts). Added steps blocks s stmt steps' os) (sym f)
+pub added : (steps steps' : List Step) (blocks blocks' : List Starts) (n : ℕ) (s : Starts) (stmt : Stmt) → CanStand steps blocks s stmt
+    → steps' ≡ steps ++ record { stmt = stmt; next = s.text } ∷ [] → n ≡ length steps' → blocks' ≡ blocks ++ starts n s.second ∷ [] → Added steps blocks s stmt steps' blocks'
+added steps steps' blocks blocks' n s stmt h e m f =
+    subst (λ (os : List Starts). Added steps blocks s stmt steps' os) (sym (f ∙ ap (λ (k : ℕ). blocks ++ starts k s.second ∷ []) m))
     (subst (λ (ss : List Step). Added steps blocks s stmt ss (blocks ++ starts (length ss) s.second ∷ [])) (sym e) (added_here steps blocks s stmt h))
+
+-- the two innermost blocks are taken off, and a statement that names places of the first of them stands first in the second
+pub can_stand : (steps : List Step) (blocks inside rest : List Starts) (i s : Starts) (stmt : Stmt) → AllUpTo (length steps) blocks → Taken blocks i inside → Taken inside s rest → form_top (form_of stmt) ≤ max i.text i.second → CanStand steps rest s stmt
+can_stand steps blocks inside rest i s stmt h t u low =
+    let n = length steps in
+    let up = t.up n h in
+    let text : i.text ≤ n = t.text n h in
+    let second : i.second ≤ n = t.second n h in
+    (u.up n up, u.text n up, u.second n up, omega arith)
 
 -- lines
 
@@ -108,13 +117,36 @@ IsPlain (Branches e one other) = ⊥
 IsPlain (Repeats l body) = ⊥
 IsPlain (Splits one two) = ⊥
 
+line_before : (go : Text → Text) (ls rest : List Level) (s : Level) → top ls ≡ s → below ls ≡ rest → level (go s.text) s.second ∷ rest ≡ with_text (go (top ls).text) ls
+line_before go ls rest s a b = cc (a, b)
+
 plain_before : (at : ℕ → Text) (form : Form) (ls rest : List Level) (s : Starts) → IsPlain form → top ls ≡ level (at s.text) (at s.second) → below ls ≡ rest
     → level (text_with at form s.text) (at s.second) ∷ rest ≡ before (row_in form) ls
-plain_before at (Acts q) ls rest s h e f = cc (e, f)
-plain_before at (Asks a) ls rest s h e f = cc (e, f)
+plain_before at (Acts q) ls rest s h e f = line_before (Act q) ls rest (level (at s.text) (at s.second)) e f
+plain_before at (Asks a) ls rest s h e f = line_before (Ask a) ls rest (level (at s.text) (at s.second)) e f
 plain_before at (Branches x one other) ls rest s h e f = absurd h
 plain_before at (Repeats l body) ls rest s h e f = absurd h
 plain_before at (Splits one two) ls rest s h e f = absurd h
+
+-- a statement is plain that is no block
+pub plain_form : (s : Stmt) → ((e : CodeExpr) → (a b : ℕ) → s ≡ code.If e a b → ⊥) → ((l : CodeLoop) → (b : ℕ) → s ≡ code.Each l b → ⊥) → ((a b : ℕ) → s ≡ code.Both a b → ⊥) → IsPlain (form_of s)
+plain_form (code.Let name e) p q r = tt
+plain_form (code.Emit values) p q r = tt
+plain_form (code.SetTimer time) p q r = tt
+plain_form (code.UnsetTimer time) p q r = tt
+plain_form (code.Get name state missing) p q r = tt
+plain_form (code.GetAt name state place missing) p q r = tt
+plain_form (code.Has name state place) p q r = tt
+plain_form (code.Empty name state) p q r = tt
+plain_form (code.Put state number) p q r = tt
+plain_form (code.PutAt state place number) p q r = tt
+plain_form (code.PutAll state numbers) p q r = tt
+plain_form (code.Add state number) p q r = tt
+plain_form (code.Remove state place) p q r = tt
+plain_form (code.Clear state) p q r = tt
+plain_form (code.If test one other) p q r = p test one other refl
+plain_form (code.Each turn body) p q r = q turn body refl
+plain_form (code.Both one two) p q r = r one two refl
 
 pub plain_top : (form : Form) → IsPlain form → form_top form ≡ 0
 plain_top (Acts q) h = refl
@@ -152,9 +184,12 @@ pub linked_both : (steps steps' : List Step) (blocks inside rest blocks' : List 
 linked_both steps steps' blocks inside rest blocks' i s t u a = linked_by steps steps' blocks rest blocks' s (code.Both i.text i.second) a
     (both_before (levels_at steps blocks) (levels_at steps inside) (levels_at steps rest) (level_at steps i) (level_at steps s) (t.first steps) (t.others steps) (u.first steps) (u.others steps))
 
+second_before : (none : Text) (ls rest : List Level) (s : Level) → none ≡ Stop → top ls ≡ s → below ls ≡ rest → level none s.text ∷ rest ≡ before SecondRow ls
+second_before none ls rest s n a b = cc (n, a, b)
+
 pub linked_second : (steps : List Step) (blocks rest blocks' : List Starts) (s : Starts) → AllUpTo (length steps) blocks → Taken blocks s rest → blocks' ≡ rest ++ starts 0 s.text ∷ [] → Linked SecondRow steps blocks steps blocks'
 linked_second steps blocks rest blocks' s h t e = subst (λ (os : List Starts). Linked SecondRow steps blocks steps os) (sym e) (record {
-  levels = levels_push steps rest (starts 0 s.text) ∙ cc (text_end steps, t.first steps, t.others steps);
+  levels = levels_push steps rest (starts 0 s.text) ∙ second_before (text_at steps 0) (levels_at steps blocks) (levels_at steps rest) (level_at steps s) (text_end steps) (t.first steps) (t.others steps);
   up = up_push (length steps) rest (starts 0 s.text) (t.up (length steps) h) (omega arith) (t.text (length steps) h);
   longer = omega arith;
   stays = λ p low. refl;

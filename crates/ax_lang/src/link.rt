@@ -11,11 +11,11 @@ use ax_base::NoMemory;
 use ax_expr::Expr;
 use std::alloc::Global;
 
-/// Where what is left of a block's part begins, and where the block's second part does.
+// Where what is left of a block's part begins, and where the block's second part does.
 #[derive(Clone, Copy)]
-pub struct Starts {
-    pub text: usize,
-    pub second: usize,
+struct Starts {
+    text: usize,
+    second: usize,
 }
 
 fn take_starts(blocks: &mut Vec<Starts>) -> Starts
@@ -58,7 +58,8 @@ fn add_step(
     push_step(steps, stmt, block.text)?;
     let text = steps.len();
     let second = block.second;
-    push_starts(blocks, Starts { text, second })
+    push_starts(blocks, Starts { text, second })?;
+    Ok(())
 }
 
 fn link_if(steps: &mut Vec<Step>, blocks: &mut Vec<Starts>, test: Expr) -> Result<(), NoMemory>
@@ -69,7 +70,8 @@ fn link_if(steps: &mut Vec<Step>, blocks: &mut Vec<Starts>, test: Expr) -> Resul
     let block = take_starts(blocks);
     let one = inner.text;
     let other = inner.second;
-    add_step(steps, blocks, block, Stmt::If { test, one, other })
+    add_step(steps, blocks, block, Stmt::If { test, one, other })?;
+    Ok(())
 }
 
 fn link_each(steps: &mut Vec<Step>, blocks: &mut Vec<Starts>, turn: Loop) -> Result<(), NoMemory>
@@ -79,7 +81,8 @@ fn link_each(steps: &mut Vec<Step>, blocks: &mut Vec<Starts>, turn: Loop) -> Res
     let inner = take_starts(blocks);
     let block = take_starts(blocks);
     let body = inner.text;
-    add_step(steps, blocks, block, Stmt::Each { turn, body })
+    add_step(steps, blocks, block, Stmt::Each { turn, body })?;
+    Ok(())
 }
 
 fn link_both(steps: &mut Vec<Step>, blocks: &mut Vec<Starts>) -> Result<(), NoMemory>
@@ -90,7 +93,8 @@ fn link_both(steps: &mut Vec<Step>, blocks: &mut Vec<Starts>) -> Result<(), NoMe
     let block = take_starts(blocks);
     let one = inner.text;
     let two = inner.second;
-    add_step(steps, blocks, block, Stmt::Both { one, two })
+    add_step(steps, blocks, block, Stmt::Both { one, two })?;
+    Ok(())
 }
 
 fn link_stmt(steps: &mut Vec<Step>, blocks: &mut Vec<Starts>, stmt: Stmt) -> Result<(), NoMemory>
@@ -103,7 +107,8 @@ fn link_stmt(steps: &mut Vec<Step>, blocks: &mut Vec<Starts>, stmt: Stmt) -> Res
         Stmt::Both { .. } => link_both(steps, blocks),
         plain => {
             let block = take_starts(blocks);
-            add_step(steps, blocks, block, plain)
+            add_step(steps, blocks, block, plain)?;
+            Ok(())
         }
     }
 }
@@ -114,7 +119,8 @@ fn link_second(steps: &[Step], blocks: &mut Vec<Starts>) -> Result<(), NoMemory>
     ensures { OnOk result (Linked SecondRow steps.now blocks.old.items steps.now blocks.new.items) }
 {
     let second = take_starts(blocks).text;
-    push_starts(blocks, Starts { text: 0, second })
+    push_starts(blocks, Starts { text: 0, second })?;
+    Ok(())
 }
 
 // A block ends.
@@ -122,7 +128,8 @@ fn link_end(steps: &[Step], blocks: &mut Vec<Starts>) -> Result<(), NoMemory>
     requires { AllUpTo (length steps.now) blocks.old.items }
     ensures { OnOk result (Linked EndRow steps.now blocks.old.items steps.now blocks.new.items) }
 {
-    push_starts(blocks, Starts { text: 0, second: 0 })
+    push_starts(blocks, Starts { text: 0, second: 0 })?;
+    Ok(())
 }
 
 // A line stands before those that are linked.
@@ -138,11 +145,7 @@ fn link_row(steps: &mut Vec<Step>, blocks: &mut Vec<Starts>, row: Row) -> Result
 }
 
 // Puts a handler's lines into the table, and gives the place where it begins.
-pub(crate) fn link(
-    alloc: Global,
-    steps: &mut Vec<Step>,
-    rows: Vec<Row>,
-) -> Result<usize, NoMemory>
+pub(crate) fn link(alloc: Global, steps: &mut Vec<Step>, rows: Vec<Row>) -> Result<usize, NoMemory>
     ensures text { IfOk result (λ first. text_at steps.new.items first ≡ text_of (map shown_row rows.items)) }
     ensures place { IfOk result (λ first. first ≤ length steps.new.items) }
     ensures stays { OnOk result (GoesOn steps.old.items steps.new.items) }

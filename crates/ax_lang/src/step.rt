@@ -6,7 +6,10 @@ use ax_expr::Expr;
 #[derive(Clone, Copy)]
 pub enum Loop {
     /// The items of a list, each in the name.
-    Items { name: usize, state: u8 },
+    Items {
+        name: usize,
+        state: u8,
+    },
     /// The entries of a map by rising place, the place and the number in two names that differ.
     Entries {
         key: usize,
@@ -19,13 +22,22 @@ pub enum Loop {
 #[derive(Drop)]
 pub enum Stmt {
     /// The local name takes the value.
-    Let { name: usize, value: Expr },
+    Let {
+        name: usize,
+        value: Expr,
+    },
     /// One output line.
-    Emit { values: ListOf<Expr> },
+    Emit {
+        values: ListOf<Expr>,
+    },
     /// A timer of the key is set at this time.
-    SetTimer { time: Expr },
+    SetTimer {
+        time: Expr,
+    },
     /// The key's timer at this time is taken off.
-    UnsetTimer { time: Expr },
+    UnsetTimer {
+        time: Expr,
+    },
     /// The local name takes the number of the state, or the default where it has none.
     Get {
         name: usize,
@@ -46,9 +58,15 @@ pub enum Stmt {
         place: Expr,
     },
     /// The local name takes 1 where a map has no place, and 0 where it has one.
-    Empty { name: usize, state: u8 },
+    Empty {
+        name: usize,
+        state: u8,
+    },
     /// The state's number is set.
-    Put { state: u8, number: Expr },
+    Put {
+        state: u8,
+        number: Expr,
+    },
     /// The number at a place of a map is set.
     PutAt {
         state: u8,
@@ -56,13 +74,24 @@ pub enum Stmt {
         number: Expr,
     },
     /// A list becomes these numbers, 1 to 16.
-    PutAll { state: u8, numbers: ListOf<Expr> },
+    PutAll {
+        state: u8,
+        numbers: ListOf<Expr>,
+    },
     /// A number goes to the end of a list.
-    Add { state: u8, number: Expr },
+    Add {
+        state: u8,
+        number: Expr,
+    },
     /// A place of a map is taken off.
-    Remove { state: u8, place: Expr },
+    Remove {
+        state: u8,
+        place: Expr,
+    },
     /// The state is as it was before it was ever touched.
-    Clear { state: u8 },
+    Clear {
+        state: u8,
+    },
     /// The steps from `one` where the test isn't 0, and those from `other` where it is.
     If {
         test: Expr,
@@ -70,9 +99,15 @@ pub enum Stmt {
         other: usize,
     },
     /// The steps from `body`, once for each item or entry.
-    Each { turn: Loop, body: usize },
+    Each {
+        turn: Loop,
+        body: usize,
+    },
     /// The steps from `one` and those from `two`, whose requests may be out at once.
-    Both { one: usize, two: usize },
+    Both {
+        one: usize,
+        two: usize,
+    },
 }
 
 /// A statement, and the place that comes after it. A place counts from 1, and 0 is the end.

@@ -21,7 +21,7 @@ use Rattle.ax_text.specs.Silent.{silent, told, told_in, turn_told, BeginTells, G
 use Rattle.ax_text.proofs.Keeps.{by_cases, Agree, keeps_left}
 use Rattle.ax_text.proofs.Behind.{Same, behind, same_left}
 use Rattle.ax_text.proofs.Steps.{Blank, BlankBut, Goes, IsStep, IsGiven, after_talk, begin_ok, given, serve_ok, upd_at, upd_off, left_same, without_keeps}
-use Rattle.ax_text.proofs.Going.{slot_waits}
+use Rattle.ax_text.proofs.Wakeful.{slot_waits}
 use Rattle.ax_text.proofs.Accepting.{accepted_fits}
 
 -- what was said before these

@@ -1,5 +1,5 @@
 -- Two arms that are done never stand in a control: what comes behind them has begun. So a control that isn't done waits.
-use Rattle.std.proofs.Common.{◌≡◌, ℕ, pos, List, [], ◌∷◌, ◌++◌, Bool, true, false, ◌&&◌, nat_eq, if◌then◌else◌, refl, ap₂, Some, None}
+use Rattle.std.proofs.Common.{◌≡◌, ℕ, pos, List, [], ◌∷◌, ◌++◌, Bool, true, false, ◌&&◌, nat_eq, if◌then◌else◌, refl, ap₂, Option, Some, None}
 use Rattle.std.specs.Ordering.{int_eq}
 use Rattle.std.proofs.lemmas.Bool.{both_ways, eq-eqb}
 use Rattle.ax_base.specs.declared.lists.Pair.{Pair}
@@ -12,7 +12,7 @@ use Rattle.ax_text.specs.Prints.{has}
 use Rattle.ax_text.specs.Controls.{Frame, Rest, Turns, Cursor, Next, Take, Begin, Control, Done, Wait, Arms, Ask' as Asked, Turn, slots, is_done, ended, also, joined, begin_text, begin_turns, begin_frame, begin, resume, give_in, without, give, request_at}
 use Rattle.ax_text.specs.Sound.{Split, IsWakeful, IsWaiting}
 use Rattle.ax_text.proofs.Keeps.{by_cases}
-use Rattle.ax_text.proofs.Going.{slot_waits}
+use Rattle.ax_text.proofs.Steps.{mem_one, mem_two}
 
 joined_wakes : (one two : Control) (asks : List Asked) (k : Cursor) (go : Talk → Turn) (t : Talk) → IsWakeful one → IsWakeful two → IsWakeful (go t).control
     → IsWakeful (joined one two asks k go t).control
@@ -80,6 +80,17 @@ module _ (f : Facts) where
   pub give_wakes : (c : Control) (s : ℕ) (a : Answer) (t : Talk) → IsWakeful c → IsWakeful (give f c s a t).control
   unfolding give
   give_wakes c s a t h = give_in_wakes c s a (without s (slots c)) t h
+
+none_some : {A : Type 0} {y : A} → None ≡ Some y → ⊥
+none_some h = cc h
+
+-- a request stands only at a slot that waits
+pub slot_waits : (c : Control) (n : ℕ) (q : Request) → request_at c n ≡ Some q → has n (slots c) ≡ true
+slot_waits Done n q e = absurd (none_some e)
+slot_waits (Wait s r x k) n q e = by_cases (nat_eq n s) (λ y. rw y refl) (λ y. absurd (none_some (rw y at e)))
+slot_waits (Arms one two k) n q e = by_cases (has n (slots one))
+    (λ x. mem_one n (slots one) (slots two) x)
+    (λ x. mem_two n (slots one) (slots two) (slot_waits two n q (rw x at e)))
 
 pub waits_for : (c : Control) → IsWakeful c → Split c → is_done c ≡ false → IsWaiting c
 unfolding IsWakeful Split

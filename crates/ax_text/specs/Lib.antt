@@ -18,3 +18,4 @@ pub mod Widths
 pub mod Suits
 pub mod Sound
 pub mod Silent
+pub mod Underway

@@ -1,5 +1,5 @@
 //! Laws of handlers. Each is what an empty function ensures.
-ghost use Rattle.std.specs.Prelude.{◌≡◌, ℕ, List, [], ◌∷◌, true, false, Some};
+ghost use Rattle.std.specs.Prelude.{◌≡◌, ◌≢◌, ℕ, List, [], ◌∷◌, true, false, Some};
 ghost use Rattle.ax_text.specs.declared.vocabulary.Answer.{Answer as AnyAnswer};
 ghost use Rattle.ax_text.specs.declared.vocabulary.Request.{Request as AnyRequest};
 ghost use Rattle.ax_text.specs.declared.vocabulary.Kind.{Kind};
@@ -8,10 +8,12 @@ ghost use Rattle.ax_text.specs.Cells.{Cells};
 ghost use Rattle.ax_text.specs.Texts.{Text};
 ghost use Rattle.ax_text.specs.Programs.{width};
 ghost use Rattle.ax_text.specs.Run.{Talk, World};
-ghost use Rattle.ax_text.specs.Controls.{Control, Done, Cursor, Event, Going, slots, waiting, is_done, request_at};
+ghost use Rattle.ax_text.specs.Controls.{Control, Done, Cursor, Event, Going, slots, waiting, is_done, request_at, give};
+ghost use Rattle.ax_text.specs.Prints.{has};
 ghost use Rattle.ax_text.specs.Suits.{Suits, AsksSuit, fits_in};
 ghost use Rattle.ax_text.specs.Sound.{Split, IsWakeful, IsWaiting, BeginsSound, GivesSound};
 ghost use Rattle.ax_text.specs.Silent.{BeginTells, GiveTells, StepsSilently, BeginsAtOnce, ServesAtOnce, ServesMore};
+ghost use Rattle.ax_text.specs.Underway.{ServesAt, GivesAt, StartsUnderway, StepsUnderway};
 ghost use Rattle.ax_text.specs.Futures.{ComesToRun, EndsAsRun, StaysWithin, AsksAtBegin, AsksAtGive};
 ghost use Rattle.ax_text.specs.Rows.{Row, IsAccepted, follow, widened_by, now_of, text_of, wide, Body};
 
@@ -73,6 +75,28 @@ pub fn answered_at_once_comes_to_the_run()
     ensures begin { (f : Facts) (text : Text) (cells : Cells) → BeginsAtOnce f text cells }
     ensures serve { (n : ℕ) (kinds : List Kind) (f : Facts) (c : Control) (s : ℕ) (r : AnyRequest) (w : World) → ServesAtOnce n kinds f c s r w }
     ensures more { (n : ℕ) (kinds : List Kind) (f : Facts) (c : Control) (s : ℕ) (r : AnyRequest) (w : World) → ServesMore n kinds f c s r w }
+{}
+
+/// An accepted text begins underway, and every step keeps it so: its arms are apart and wait at different slots, it waits unless it is done, and answers stand only where it waits.
+pub fn steps_stay_underway()
+    ensures start { (f : Facts) (text : Text) (w : World) → StartsUnderway f text w }
+    ensures step { (f : Facts) (e : Event) (g : Going) → StepsUnderway f e g }
+{}
+
+/// Serving a request that waits takes exactly one of the requests that are left: the handler comes to the same, and has not moved.
+pub fn a_serve_takes_one()
+    ensures { (f : Facts) (g : Going) (s : ℕ) (r : AnyRequest) → ServesAt f g s r }
+{}
+
+/// Giving an answer that was served takes none of the requests that are left: the handler comes to the same, and has moved.
+pub fn an_answer_takes_none()
+    ensures { (f : Facts) (g : Going) (s : ℕ) (a : AnyAnswer) → GivesAt f g s a }
+{}
+
+/// Where a request waits, its answer changes the control.
+#[tactic(auto, using(crate::proofs::Moving::give_moves))]
+pub fn answers_move_on()
+    ensures { (f : Facts) (c : Control) (s : ℕ) (a : AnyAnswer) (t : Talk) → has s (slots c) ≡ true → (give f c s a t).control ≢ c }
 {}
 
 /// Lines of a handler that pass the tests of arms one after another make a text whose arms are silent and apart.

@@ -1,9 +1,9 @@
 use Rattle.std.proofs.Common.{◌≡◌, ◌∙◌, ◌+◌, ◌≤◌, ◌∷◌, ◌++◌, [], ◌&&◌, ℕ, List, suc, max, length, false, sym, ap, subst, arith, length-append}
 use Rattle.ax_text.specs.Programs.{width}
 use Rattle.ax_text.specs.Controls.{Rest, Cursor, Control, Done, Turn, slots, is_done, also, begin}
-use Rattle.ax_future.specs.declared.going.Ask.{Ask}
+use Rattle.ax_future.specs.declared.callback.Ask.{Ask}
 use Rattle.ax_future.specs.declared.moves.Move.{Move}
-use Rattle.ax_future.specs.Shown.{text_from}
+use Rattle.ax_lang.specs.Shown.{text_from}
 use Rattle.ax_future.specs.Sizes.{cursor_width}
 use Rattle.ax_future.specs.Nodes.{cursor_in, control_in, highest}
 use Rattle.ax_future.specs.Talks.{facts_in, talk_of, asks_in}

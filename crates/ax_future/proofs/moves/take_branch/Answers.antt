@@ -1,7 +1,7 @@
 use Rattle.std.proofs.Common.{◌∙◌, ◌∷◌, refl, sym, ap}
 use Rattle.ax_text.specs.Controls.{Rest, Cursor}
 use Rattle.ax_expr.specs.Shown.{shown_expr}
-use Rattle.ax_future.specs.Shown.{text_from}
+use Rattle.ax_lang.specs.Shown.{text_from}
 use Rattle.ax_future.specs.Nodes.{cursor_in}
 use Rattle.ax_future.specs.Talks.{talk_of, facts_in}
 use Rattle.ax_future.proofs.MoveLemmas.{one_goes, other_goes}

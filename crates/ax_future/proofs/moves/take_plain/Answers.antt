@@ -1,6 +1,6 @@
 use Rattle.std.proofs.Common.{◌∙◌, sym, ap}
-use Rattle.ax_future.specs.Forms.{form_of}
-use Rattle.ax_future.specs.Shown.{text_from}
+use Rattle.ax_lang.specs.Forms.{form_of}
+use Rattle.ax_lang.specs.Shown.{text_from}
 use Rattle.ax_future.specs.Nodes.{cursor_in}
 use Rattle.ax_future.specs.Talks.{facts_in, talk_of, seen_question, question_in}
 use Rattle.ax_future.proofs.MoveLemmas.{plain_asks, plain_goes}

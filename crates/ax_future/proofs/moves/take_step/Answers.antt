@@ -1,7 +1,7 @@
 use Rattle.std.proofs.Common.{◌∷◌, refl, sym, ap, subst}
 use Rattle.ax_text.specs.Controls.{Rest, Begin}
-use Rattle.ax_future.specs.Forms.{Form, form_of, shown_loop, text_with}
-use Rattle.ax_future.specs.Shown.{text_from}
+use Rattle.ax_lang.specs.Forms.{Form, form_of, shown_loop, text_with}
+use Rattle.ax_lang.specs.Shown.{text_from}
 use Rattle.ax_future.specs.Nodes.{cursor_in}
 use Rattle.ax_future.specs.Talks.{talk_of, facts_in}
 use Rattle.ax_future.specs.Moves.{Asks, Splits}

@@ -1,7 +1,7 @@
 use Rattle.std.proofs.Common.{◌∙◌, ◌∷◌, ap, arith}
 use Rattle.ax_text.specs.Controls.{Rest, Cursor}
-use Rattle.ax_future.specs.Forms.{shown_loop}
-use Rattle.ax_future.specs.Shown.{text_from}
+use Rattle.ax_lang.specs.Forms.{shown_loop}
+use Rattle.ax_lang.specs.Shown.{text_from}
 use Rattle.ax_future.specs.Nodes.{cursor_in}
 use Rattle.ax_future.specs.Talks.{talk_of}
 use Rattle.ax_future.proofs.MoveLemmas.{turn_taken, turns_over}

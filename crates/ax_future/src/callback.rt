@@ -1,0 +1,43 @@
+//! What a callback knows, and what it leaves.
+use ax_base::{ListOf, Nums};
+use ax_keys::Key;
+use ax_text::{Request, TimerOp};
+
+/// What a handler knows besides the states of its key.
+#[derive(Drop)]
+pub struct Facts {
+    /// The key of the row or of the timer.
+    pub key: Key,
+    /// The time of the row or of the timer.
+    pub time: i64,
+    /// The greatest watermark before the row, or the one that fires.
+    pub wm: i64,
+    /// The values of the row, and none for a timer. A value that is absent counts as 0.
+    pub values: Nums,
+}
+
+/// A request that goes out, and the slot that waits for its answer.
+#[derive(Drop)]
+pub struct Ask {
+    /// The least slot that was free, from 0 to 15.
+    pub slot: u8,
+    pub request: Request,
+}
+
+/// Requests, in order.
+pub type Asks = ListOf<Ask>;
+
+/// The numbers of output lines, in order.
+pub type Outs = ListOf<Nums>;
+
+/// What was done to the key's timers, in order.
+pub type TimerOps = ListOf<TimerOp>;
+
+/// What a callback asked, wrote and did to its key's timers.
+#[derive(Drop)]
+pub struct Turn {
+    /// Its requests, with rising slots.
+    pub asks: Asks,
+    pub outs: Outs,
+    pub timer_ops: TimerOps,
+}
