@@ -4,3 +4,4 @@ pub mod WayLemmas
 pub mod MoveLemmas
 pub mod BeginLemmas
 pub mod AnswerLemmas
+pub mod LeastLemmas

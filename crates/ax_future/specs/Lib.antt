@@ -3,3 +3,4 @@ pub mod Talks
 pub mod Nodes
 pub mod Ways
 pub mod Moves
+pub mod Least

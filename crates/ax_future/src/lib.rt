@@ -15,6 +15,7 @@ mod begin;
 mod callback;
 mod fresh;
 mod going;
+mod least;
 // mod machine;
 mod moves;
 mod node;

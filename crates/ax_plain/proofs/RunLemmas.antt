@@ -1,11 +1,15 @@
 -- A handler's run, one turn after another.
-use Rattle.std.proofs.Common.{◌≡◌, ℕ, ℤ, pos, ◌+◌, ◌<◌, List, [], ◌∷◌, ◌++◌, true, length, take, drop, Option, Some, Result, Ok, Err, OnOk, OnErr, ◌⊎◌, inl, inr, refl, sym, ap, ap₂, ◌∙◌, subst, arith, append_assoc}
+use Rattle.std.proofs.Common.{◌≡◌, ℕ, ℤ, pos, ◌+◌, ◌<◌, List, [], ◌∷◌, ◌++◌, true, length, take, drop, Option, None, Some, Result, Ok, Err, OnOk, OnErr, ◌⊎◌, inl, inr, refl, sym, ap, ap₂, ◌∙◌, subst, arith, append_assoc}
 use Rattle.std.proofs.lemmas.List.{append-nil, take-append-drop, take_at, take_all}
 use Rattle.std.specs.Io.KnownBytes.{Appends}
+use mathlib.Core.Path.{fun_ext}
 use Rattle.ax_base.proofs.OutsideLemmas.{Appends-none, Appends-more}
 use Rattle.ax_base.specs.Outside.{AppendsSome, Counts, WriteCounts, OwnCounts}
 use Rattle.ax_base.specs.declared.outside.SinkFault.{SinkFault}
 use Rattle.ax_base.specs.declared.outside.SinkFault.TheVariants as fault
+use Rattle.ax_text.specs.declared.vocabulary.Answer.{Answer}
+use Rattle.ax_text.specs.declared.vocabulary.Handler.{Handler}
+use Rattle.ax_text.specs.declared.vocabulary.Handler.TheVariants as handler
 use Rattle.ax_text.specs.declared.vocabulary.Kind.{Kind}
 use Rattle.ax_text.specs.declared.vocabulary.Request.{Request}
 use Rattle.ax_text.specs.declared.vocabulary.TimerOp.{TimerOp}
@@ -13,17 +17,26 @@ use Rattle.ax_text.specs.Exprs.{Facts, Names}
 use Rattle.ax_text.specs.Cells.{Cells, answer_of, cells_after}
 use Rattle.ax_text.specs.Texts.{Text}
 use Rattle.ax_text.specs.Prints.{is_accepted}
-use Rattle.ax_text.specs.Run.{World, run, begun, times_after}
-use Rattle.ax_text.specs.Controls.{Rest, Control, Turn, begin, give, request_at}
+use Rattle.ax_text.specs.Programs.{program_width}
+use Rattle.ax_text.specs.Jobs.{text_for}
+use Rattle.ax_text.specs.Run.{World, run, begun, time_after, times_after}
+use Rattle.ax_text.specs.Controls.{Rest, Control, Done, Turn, begin, give, request_at}
 use Rattle.ax_text.specs.Silent.{silent, unanswered, at_once}
-use Rattle.ax_text.specs.Sound.{IsSound}
+use Rattle.ax_text.specs.Sound as control
 use Rattle.ax_text.proofs.Behind.{Same, same_left}
 use Rattle.ax_text.proofs.Telling.{begins_at_once, serves_at_once}
 use Rattle.ax_time.specs.declared.timer.Timer.{Timer}
 use Rattle.ax_time.specs.Timers.{times_of, PutsTimes}
 use Rattle.ax_time.proofs.KeptLemmas.{times_same}
 use Rattle.ax_machine.specs.Entries.{Key, Out, says, text_of, entry_text}
-use Rattle.ax_plain.specs.Handler.{fresh, behind, LeavesOthers}
+use Rattle.ax_lang.specs.declared.program.Program.{Program}
+use Rattle.ax_lang.specs.Shown.{shown_program, shown_kinds}
+use Rattle.ax_lang.proofs.ProgramLemmas.{row_accepted, timer_accepted}
+use Rattle.ax_future.specs.declared.callback.Turn.{Turn as CodeTurn}
+use Rattle.ax_future.specs.declared.machine.Machine.{Machine}
+use Rattle.ax_future.specs.Machines.{control_of, names_of, left_by, IsSound}
+use Rattle.ax_plain.specs.declared.handler.RunFacts.{RunFacts}
+use Rattle.ax_plain.specs.Handler.{shown_run_facts, run_from, fresh, behind, comes_to, TakesTurn, LeavesOthers}
 use Rattle.ax_plain.proofs.TimesLemmas.{puts_elsewhere, puts_then, puts_at, times_after_both}
 
 -- ---- what stands after an error
@@ -58,6 +71,22 @@ AppendsSome-behind a b c x y z all p q e =
 pub set_others : {T E : Type 0} (r : Result T E) (t u : List Timer) (k : Key) (xs : List ℤ) → OnOk r (PutsTimes t u k xs) → OnErr r (u ≡ t) → LeavesOthers k t u
 set_others (Ok x) t u k xs p e q a = puts_elsewhere t u k q xs p a
 set_others (Err f) t u k xs p e q a = ap (λ v. times_of v q) e
+
+-- a line was written, and then the rest of the lines
+pub line_then : (a b c : Option (List ℕ)) (key : Key) (x : List ℤ) (xs : List (List ℤ)) → Appends a b (entry_text (Out key x)) → Appends b c (text_of (says key xs)) → Appends a c (text_of (says key (x ∷ xs)))
+line_then a b c key x xs p q = Appends-more a b c (entry_text (Out key x)) (text_of (says key xs)) _ p q refl
+
+pub line_then_some : (a b c : Option (List ℕ)) (key : Key) (x : List ℤ) (xs : List (List ℤ)) → Appends a b (entry_text (Out key x)) → AppendsSome b c (text_of (says key xs)) → AppendsSome a c (text_of (says key (x ∷ xs)))
+line_then_some a b c key x xs p q = AppendsSome-behind a b c (entry_text (Out key x)) (text_of (says key xs)) [] _ p q (ap (λ t. entry_text (Out key x) ++ t) (append-nil (text_of (says key xs))))
+
+-- the first of the lines failed
+pub line_some : (a b : Option (List ℕ)) (key : Key) (x : List ℤ) (xs : List (List ℤ)) → AppendsSome a b (entry_text (Out key x)) → AppendsSome a b (text_of (says key (x ∷ xs)))
+line_some a b key x xs q = AppendsSome-behind a a b [] (entry_text (Out key x)) (text_of (says key xs)) _ (Appends-none a) q refl
+
+-- a timer was set or taken off, and then the rest was done
+pub op_then : (t t' u : List Timer) (key : Key) (o : TimerOp) (os : List TimerOp) → PutsTimes t t' key (time_after o (times_of t key)) → PutsTimes t' u key (times_after os (times_of t' key))
+    → PutsTimes t u key (times_after (o ∷ os) (times_of t key))
+op_then t t' u key o os p q = puts_then t t' u key _ _ p (subst (PutsTimes t' u key) (ap (times_after os) (puts_at t t' key _ p)) q)
 
 -- a sink's counts by a call that takes memory of its own
 pub own_counts : {T : Type 0} (a b : Counts) (r : Result T SinkFault) → WriteCounts a b r → OwnCounts a b r
@@ -96,13 +125,38 @@ begins_turn f text cells it a e =
 
 -- a request is served and its answer given, and what is left comes behind what the turn says
 pub serves_turn : (n : ℕ) (kinds : List Kind) (f : Facts) (c : Control) (s : ℕ) (r : Request) (names : Names) (cells : Cells) (it : Turn)
-    → IsSound n kinds c → request_at c s ≡ Some r → give f c s (answer_of r cells) (silent names) ≡ it
+    → control.IsSound n kinds c → request_at c s ≡ Some r → give f c s (answer_of r cells) (silent names) ≡ it
     → at_once f c (fresh (silent names) cells) ≡ behind it.talk.lines it.talk.ops 1 (at_once f it.control (fresh (silent it.talk.names) (cells_after r cells)))
 unfolding world
 serves_turn n kinds f c s r names cells it h w e =
     sym (serves_at_once f n kinds c s r (fresh (silent names) cells) h w)
     ∙ ap (λ (x : Turn). at_once f x.control (world x.talk.names x.talk.lines x.talk.ops (cells_after r cells) 1)) e
     ∙ at_behind f it.control it.talk.names it.talk.lines it.talk.ops (cells_after r cells) 1
+
+-- the machine's turn: the request at a slot was served
+pub takes_turn : (f : Facts) (p : Program) (m m' : Machine) (turn : CodeTurn) (s : ℕ) (r : Request) (a : Answer) (cells cells' : Cells)
+    → IsSound p m → request_at (control_of p m) s ≡ Some r → a ≡ answer_of r cells → ((i : ℕ) → cells' i ≡ cells_after r cells i)
+    → give f (control_of p m) s a (silent (names_of m)) ≡ left_by p m' turn → TakesTurn f p m m' cells cells' (Some turn)
+takes_turn f p m m' turn s r a cells cells' h w e after g =
+    let gave : give f (control_of p m) s (answer_of r cells) (silent (names_of m)) ≡ left_by p m' turn = sym (ap (λ (x : Answer). give f (control_of p m) s x (silent (names_of m))) e) ∙ g in
+    serves_turn (program_width (shown_program p)) (shown_kinds p) f (control_of p m) s r (names_of m) cells (left_by p m' turn) h w gave
+    ∙ sym (ap (λ (x : Cells). behind turn.outs turn.timer_ops 1 (comes_to f p m' x)) (fun_ext after))
+
+-- the machine is done
+pub takes_none : (f : Facts) (p : Program) (m : Machine) (cells : Cells) → control_of p m ≡ Done → TakesTurn f p m m cells cells None
+takes_none f p m cells e = ap (λ (c : Control). at_once f c (fresh (silent (names_of m)) cells)) e
+
+-- a machine started
+pub starts_turn : (f : Facts) (p : Program) (h : Handler) (m : Machine) (turn : CodeTurn) (facts : RunFacts) (cells : Cells)
+    → f ≡ shown_run_facts facts → begin f (Rest (text_for (shown_program p) h) ∷ []) [] (silent (λ i. pos 0)) ≡ left_by p m turn
+    → run_from p h facts cells ≡ behind turn.outs turn.timer_ops 0 (comes_to f p m cells)
+starts_turn f p h m turn facts cells e g =
+    sym (ap (λ (x : Facts). run x (text_for (shown_program p) h) (begun cells)) e)
+    ∙ begins_turn f (text_for (shown_program p) h) cells (left_by p m turn) (accepted h) g
+  where
+    accepted : (h : Handler) → is_accepted (text_for (shown_program p) h) ≡ true
+    accepted handler.Row = row_accepted p
+    accepted handler.Timer = timer_accepted p
 
 behind_both : (l m : List (List ℤ)) (o p : List TimerOp) (n k : ℕ) (w : World) → behind l o n (behind m p k w) ≡ behind (l ++ m) (o ++ p) (n + k) w
 unfolding world

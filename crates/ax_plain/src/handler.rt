@@ -4,14 +4,13 @@ ghost use Rattle.std.specs.Prelude.{◌≡◌, ◌++◌, ◌∷◌, OnOk, OnErr,
 ghost use Rattle.std.specs.Fmt.{signed_decimal};
 ghost use Rattle.std.specs.Io.KnownBytes.{Appends};
 ghost use Rattle.ax_base.specs.Outside.{AppendsSome, OwnCounts};
-ghost use Rattle.ax_text.specs.Sound.{IsSound};
 ghost use Rattle.ax_text.specs.Run.{time_after, times_after};
 ghost use Rattle.ax_machine.specs.Entries.{Out, says, text_of, entry_text, numbers_text, marker_text, Watermark};
 ghost use Rattle.ax_state.specs.KeyCells.{shown_cells, cell_kinds};
 ghost use Rattle.ax_time.specs.Timers.{PutsTimes, times_of};
 ghost use Rattle.ax_lang.specs.Shown as lang;
 ghost use Rattle.ax_future.specs.Talks.{facts_in};
-ghost use Rattle.ax_future.specs.Machines.{control_of};
+ghost use Rattle.ax_future.specs.Machines.{IsSound};
 ghost use Rattle.ax_plain.specs.Handler.{shown_run_facts, run_from, TakesTurn, LeavesOthers};
 
 use ax_base::{NoMemory, Nums, Sink, SinkFault, write_all};
@@ -209,9 +208,9 @@ fn next_turn(
     facts: &Facts,
     cells: &mut KeyCells,
 ) -> Result<Option<Turn>, NoMemory>
-    requires sound { IsSound 16 (lang.shown_kinds program.now) (control_of program.now machine.old) }
+    requires sound { IsSound program.now machine.old }
     requires kinds { cell_kinds cells.old ≡ lang.shown_kinds program.now }
-    ensures sound { OnOk result (IsSound 16 (lang.shown_kinds program.now) (control_of program.now machine.new)) }
+    ensures sound { OnOk result (IsSound program.now machine.new) }
     ensures kinds { cell_kinds cells.new ≡ lang.shown_kinds program.now }
     ensures turn { IfOk result (TakesTurn (facts_in facts.now) program.now machine.old machine.new (shown_cells cells.old) (shown_cells cells.new)) }
 {
@@ -249,17 +248,17 @@ pub fn run_handler<K: Sink>(
     ensures counts { OwnCounts (K.counts out.old) (K.counts out.new) result }
     ensures base { K.base out.new ≡ K.base out.old }
 {
-    let Ok(facts) = facts_of(room.alloc, key, facts) else {
+    let Ok(known) = facts_of(room.alloc, key, facts) else {
         return Err(SinkFault::NoMemory);
     };
-    let Ok((machine, turn)) = Machine::start(room.alloc, program, handler, &facts) else {
+    let Ok((machine, turn)) = Machine::start(room.alloc, program, handler, &known) else {
         return Err(SinkFault::NoMemory);
     };
     let mut machine = machine;
     let mut turn = turn;
-    'turn: loop {
+    'turns: loop {
         do_turn(&mut room.text, key, &turn, timers, out)?;
-        let Ok(next) = next_turn(&mut machine, program, &facts, cells) else {
+        let Ok(next) = next_turn(&mut machine, program, &known, cells) else {
             return Err(SinkFault::NoMemory);
         };
         let Some(next) = next else {
