@@ -5,3 +5,5 @@ pub mod MoveLemmas
 pub mod BeginLemmas
 pub mod AnswerLemmas
 pub mod LeastLemmas
+pub mod MachineLemmas
+pub mod LifeLemmas

@@ -1,17 +1,21 @@
 -- What is left behind a node that goes on.
-use Rattle.std.proofs.Common.{◌≡◌, [], ◌∷◌, ◌++◌, refl, sym, ap, ◌∙◌}
+use Rattle.std.proofs.Common.{◌≡◌, ℕ, [], ◌∷◌, ◌++◌, refl, sym, ap, ◌∙◌}
+use Rattle.ax_text.specs.declared.vocabulary.Request.{Request}
 use Rattle.ax_text.specs.Exprs.{Facts}
 use Rattle.ax_text.specs.Run.{World}
-use Rattle.ax_text.specs.Controls.{Cursor, Control, Done, Wait, Arms, Answers, compose, left_wait, left, run_frame, run_cursor}
+use Rattle.ax_text.specs.Controls.{Cursor, Next, Control, Wait, Arms, Answers, left_wait, left, run_frame, run_cursor}
 
 run_append : (f : Facts) (k rest : Cursor) (w : World) → run_cursor f (k ++ rest) w ≡ run_cursor f rest (run_cursor f k w)
 run_append f [] rest w = refl
 run_append f (x ∷ k) rest w = run_append f k rest (run_frame f x w)
 
-left_compose : (f : Facts) (answers : Answers) (c : Control) (rest : Cursor) (w : World) → left f answers (compose c rest) w ≡ run_cursor f rest (left f answers c w)
-left_compose f answers Done rest w = refl
-left_compose f answers (Wait s r n k) rest w = run_append f k rest (left_wait f (answers s) r n w)
-left_compose f answers (Arms one two k) rest w = run_append f k rest (left f answers two (left f answers one w))
+module _ (f : Facts) (answers : Answers) (first : Control) (k k' rest : Cursor) where
+  pub wait_goes_on : (s : ℕ) (r : Request) (n : Next) → first ≡ Wait s r n k → k' ≡ k ++ rest → (w : World) → left f answers (Wait s r n k') w ≡ run_cursor f rest (left f answers first w)
+  wait_goes_on s r n e h w =
+      ap (λ (x : Cursor). left f answers (Wait s r n x) w) h
+      ∙ (run_append f k rest (left_wait f (answers s) r n w) ∙ ap (λ (c : Control). run_cursor f rest (left f answers c w)) (sym e))
 
-pub left_composed : (f : Facts) (answers : Answers) (c d : Control) (rest : Cursor) → d ≡ compose c rest → (w : World) → left f answers d w ≡ run_cursor f rest (left f answers c w)
-left_composed f answers c d rest e w = ap (λ (x : Control). left f answers x w) e ∙ left_compose f answers c rest w
+  pub arms_go_on : (one two : Control) → first ≡ Arms one two k → k' ≡ k ++ rest → (w : World) → left f answers (Arms one two k') w ≡ run_cursor f rest (left f answers first w)
+  arms_go_on one two e h w =
+      ap (λ (x : Cursor). left f answers (Arms one two x) w) h
+      ∙ (run_append f k rest (left f answers two (left f answers one w)) ∙ ap (λ (c : Control). run_cursor f rest (left f answers c w)) (sym e))

@@ -4,3 +4,5 @@ pub mod Nodes
 pub mod Ways
 pub mod Moves
 pub mod Least
+pub mod Machines
+pub mod Lives

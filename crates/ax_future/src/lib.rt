@@ -15,14 +15,15 @@ mod begin;
 mod callback;
 mod fresh;
 mod going;
+pub mod laws;
 mod least;
-// mod machine;
+mod machine;
 mod moves;
 mod node;
 mod nodes;
 
 pub use ax_text::{Handler, TimerOp};
 pub use callback::{Ask, Asks, Facts, Outs, TimerOps, Turn};
-// pub use machine::Machine;
+pub use machine::Machine;
 pub use node::{Assign, Cursor, Frame, Next, Node};
 pub use nodes::{combine, compose, then};

@@ -2,7 +2,7 @@
 ghost use Rattle.std.specs.Prelude.{◌≡◌, ◌++◌, [], IfOk, OnOk};
 ghost use Rattle.ax_text.specs.Exprs.{Facts as AnyFacts};
 ghost use Rattle.ax_text.specs.Run.{World};
-ghost use Rattle.ax_text.specs.Controls.{Answers, Arms, Wait as WaitsFor, taken_by, compose, combine, left, run_cursor};
+ghost use Rattle.ax_text.specs.Controls.{Answers, Arms, Wait as WaitsFor, taken_by, compose, combine, left as what_is_left, run_cursor};
 ghost use Rattle.ax_lang.specs.declared.program.Program.{Program as AnyProgram};
 ghost use Rattle.ax_future.specs.Nodes.{cursor_in, after_in, next_in, control_in};
 ghost use Rattle.ax_future.specs.Ways.{left_taken};
@@ -16,7 +16,7 @@ use std::alloc::Global;
 /// future (Flink, FLIP-424). A node that doesn't wait for one answer stays as it is. The only fault is `NoMemory`.
 pub fn then(_alloc: Global, first: Node, assign: Assign) -> Result<Node, NoMemory>
     ensures control { IfOk result (λ node. (p : AnyProgram) → control_in p node ≡ taken_by (control_in p first) (after_in assign)) }
-    ensures left { IfOk result (λ node. (p : AnyProgram) (f : AnyFacts) (answers : Answers) (w : World) → left f answers (control_in p node) w ≡ left_taken f answers (control_in p first) (after_in assign) w) }
+    ensures left { IfOk result (λ node. (p : AnyProgram) (f : AnyFacts) (answers : Answers) (w : World) → what_is_left f answers (control_in p node) w ≡ left_taken f answers (control_in p first) (after_in assign) w) }
 {
     match first {
         Node::Wait {
@@ -36,10 +36,9 @@ pub fn then(_alloc: Global, first: Node, assign: Assign) -> Result<Node, NoMemor
 
 /// The text goes on at `rest` where `first` has ended: `thenCompose` of a state future (Flink, FLIP-424). It takes time
 /// for the frames that `first` has left, and none for those of `rest`. The only fault is `NoMemory`.
-#[tactic(auto, using(crate::proofs::WayLemmas::left_composed))]
 pub fn compose(alloc: Global, first: Node, rest: Cursor) -> Result<Node, NoMemory>
     ensures control { IfOk result (λ node. (p : AnyProgram) → control_in p node ≡ compose (control_in p first) (cursor_in p rest.items)) }
-    ensures left { IfOk result (λ node. (p : AnyProgram) (f : AnyFacts) (answers : Answers) (w : World) → left f answers (control_in p node) w ≡ run_cursor f (cursor_in p rest.items) (left f answers (control_in p first) w)) }
+    ensures left { IfOk result (λ node. (p : AnyProgram) (f : AnyFacts) (answers : Answers) (w : World) → what_is_left f answers (control_in p node) w ≡ run_cursor f (cursor_in p rest.items) (what_is_left f answers (control_in p first) w)) }
 {
     match first {
         Node::Done => pair(alloc, Node::Done, Node::Done, rest),
@@ -67,7 +66,7 @@ pub fn compose(alloc: Global, first: Node, rest: Cursor) -> Result<Node, NoMemor
 /// Two arms wait side by side: `thenCombine` of two state futures (Flink, FLIP-424). The only fault is `NoMemory`.
 pub fn combine(alloc: Global, left: Node, right: Node) -> Result<Node, NoMemory>
     ensures control { IfOk result (λ node. (p : AnyProgram) → control_in p node ≡ combine (control_in p left) (control_in p right)) }
-    ensures left { IfOk result (λ node. (p : AnyProgram) (f : AnyFacts) (answers : Answers) (w : World) → left f answers (control_in p node) w ≡ left f answers (control_in p right) (left f answers (control_in p left) w)) }
+    ensures left { IfOk result (λ node. (p : AnyProgram) (f : AnyFacts) (answers : Answers) (w : World) → what_is_left f answers (control_in p node) w ≡ what_is_left f answers (control_in p right) (what_is_left f answers (control_in p left) w)) }
 {
     pair(alloc, left, right, Vec::new(alloc))
 }

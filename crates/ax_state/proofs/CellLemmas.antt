@@ -11,8 +11,10 @@ use Rattle.ax_text.specs.declared.vocabulary.Kind.{Kind}
 use Rattle.ax_text.specs.declared.vocabulary.Kind.TheVariants as kind
 use Rattle.ax_text.specs.declared.vocabulary.Request.{Request}
 use Rattle.ax_text.specs.Functions.{upd}
-use Rattle.ax_text.specs.Cells.{Cell, Value, kind_of, empty_cell, cells_after, cell_after, state_of, serves}
+use Rattle.ax_text.specs.Cells.{Cell, Value, kind_of, empty_cell, entries_in, cells_after, cell_after, state_of, serves}
 use Rattle.ax_text.specs.Programs.{untouched, kinds_of}
+use Rattle.ax_text.specs.Rising.{IsRising, MapsRise}
+use Rattle.ax_text.proofs.RisingKept.{untouched_rise, requests_keep}
 use Rattle.ax_state.specs.declared.decls.Decl.{Decl}
 use Rattle.ax_state.specs.declared.cells.Held.{Held}
 use Rattle.ax_state.specs.Held.{shown_cell}
@@ -120,3 +122,17 @@ pub held_at : (hs : List Held) (cells : List Cell) (i : ℕ) (d : Held) → map 
 held_at hs cells i d e h =
     let low : i < length hs = omega (arith, length-map hs shown_cell, ap (λ (xs : List Cell). length xs) e) in
     sym (lemma.get_or-map shown_cell hs i d (Value None) low) ∙ ap (λ (xs : List Cell). get_or xs i (Value None)) e
+
+-- maps rise behind one request, or where nothing changed
+pub served_rise : (hs : List Held) (cells : List Cell) (r : Request) (h : Held) (i : ℕ) → i ≡ state_of r → map shown_cell hs ≡ cells → fits_in (cell_kinds cells) r ≡ true
+    → (shown_cell h ≡ cell_after r (shown_cells cells (state_of r))) ⊎ (shown_cell h ≡ shown_cells cells (state_of r)) → MapsRise (shown_cells (map shown_cell hs)) → MapsRise (shown_cells (map shown_cell (slice_set hs i h)))
+served_rise hs cells r h i n e f (inl a) rise s =
+    let before : MapsRise (shown_cells cells) = subst (λ (xs : List Cell). MapsRise (shown_cells xs)) e rise in
+    subst (λ (j : ℕ). IsRising (entries_in (shown_cells (map shown_cell (slice_set hs j h)) s))) (sym n)
+    (subst (λ (c : Cell). IsRising (entries_in c)) (sym (served_cells hs cells r h e f a s)) (requests_keep r (shown_cells cells) before s))
+served_rise hs cells r h i n e f (inr a) rise s =
+    subst (λ (j : ℕ). IsRising (entries_in (shown_cells (map shown_cell (slice_set hs j h)) s))) (sym n)
+    (subst (λ (xs : List Cell). IsRising (entries_in (shown_cells xs s))) (e ∙ sym (kept_cells hs cells r h e f a)) (rise s))
+
+pub empty_rise : (cells : List Cell) (ks : List Kind) → cells ≡ map empty_cell ks → MapsRise (shown_cells cells)
+empty_rise cells ks e s = subst (λ (c : Cell). IsRising (entries_in c)) (sym (ap (λ (xs : List Cell). shown_cells xs s) e ∙ shown_cells-empty ks s)) (untouched_rise ks s)

@@ -1,2 +1,3 @@
 pub mod CellLemmas
 pub mod RisingLemmas
+pub mod EntryLemmas

@@ -2,4 +2,3 @@ pub mod Decls
 pub mod Fits
 pub mod Held
 pub mod KeyCells
-pub mod Rising

@@ -7,6 +7,7 @@ ghost use Rattle.std.specs.Map.{remove_entry};
 ghost use Rattle.std.specs.BTreeMap.{is_at, insert_entry};
 ghost use Rattle.ax_text.specs.Cells.{Items, Entries, number_in, items_in, entries_in, entry_at, pair_of, has_none, found, serves, answer_in, cell_after, answer_of, cells_after, kind_of, empty_cell};
 ghost use Rattle.ax_text.specs.Programs.{untouched};
+ghost use Rattle.ax_text.specs.Rising.{MapsRise};
 ghost use Rattle.ax_state.specs.Decls.{kinds};
 ghost use Rattle.ax_state.specs.Fits.{has_kind, fits_in};
 ghost use Rattle.ax_state.specs.Held.{shown_cell};
@@ -43,6 +44,12 @@ impl Model for KeyCells {
     ghost use Rattle.ax_state.specs.Held.{shown_cell};
 
     ghost view = { λ c. map shown_cell c.held.items };
+
+    ghost use Rattle.ax_state.specs.KeyCells.{shown_cells};
+    ghost use Rattle.ax_text.specs.Rising.{MapsRise};
+
+    // The entries of each map strictly rise by their keys.
+    ghost invariant = { λ c. MapsRise (shown_cells (map shown_cell c.held.items)) };
 }
 
 impl KeyCells {
@@ -65,6 +72,7 @@ impl KeyCells {
         ensures answer { IfOk result (λ answer. answer ≡ answer_of r.now (shown_cells self.old)) }
         ensures cells { OnOk result ((s : ℕ) → shown_cells self.new s ≡ cells_after r.now (shown_cells self.old) s) }
         ensures kinds { cell_kinds self.new ≡ cell_kinds self.old }
+        ensures rising { MapsRise (shown_cells self.new) }
         ensures err { OnErr result (self.new ≡ self.old) }
     {
         let alloc = self.alloc;

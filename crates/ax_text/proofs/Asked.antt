@@ -17,7 +17,7 @@ use Rattle.ax_text.proofs.Steps.{mem_either}
 unfoldable AreAsked : Turn → Type 0
 AreAsked it = waiting it.control ≡ it.asks
 
-none_wait : (c : Control) → is_done c ≡ true → waiting c ≡ []
+pub none_wait : (c : Control) → is_done c ≡ true → waiting c ≡ []
 none_wait Done h = refl
 none_wait (Wait s r n k) h = absurd (cc h)
 none_wait (Arms one two k) h = absurd (cc h)
@@ -121,7 +121,7 @@ joined_given one two asks k go t s before h e g = of (is_done one && is_done two
   of false d = e
 
 module _ (f : Facts) where
-  give_in_asked : (c : Control) (s : ℕ) (a : Answer) (used : List ℕ) (t : Talk) → has s (slots c) ≡ true → waiting (give_in f c s a used t).control ≡ replaced s (give_in f c s a used t).asks (waiting c)
+  pub give_in_asked : (c : Control) (s : ℕ) (a : Answer) (used : List ℕ) (t : Talk) → has s (slots c) ≡ true → waiting (give_in f c s a used t).control ≡ replaced s (give_in f c s a used t).asks (waiting c)
   unfolding AreAsked
   give_in_asked Done s a used t h = absurd (both_ways false refl h)
   give_in_asked (Wait s' r n k) s a used t h = by_cases (nat_eq s s')

@@ -65,7 +65,11 @@ free_filled : (more n : ℕ) (used : List ℕ) → Filled n used → Filled (fre
 free_filled zero n used f = f
 free_filled (suc more) n used f = by_cases (has n used) (λ e. rw e (free_filled more (suc n) used (filled_more n used f e))) (λ e. rw e f)
 
--- the least free slot is below the number of waits that there are with it
-pub least_low : (used : List ℕ) → least_free used ≤ length used
+-- all slots below the least free one are in use
+pub least_filled : (used : List ℕ) → Filled (least_free used) used
 unfolding least_free
-least_low used = filled_length (free_from (suc (total used)) 0 used) used (free_filled (suc (total used)) 0 used (filled_none used))
+least_filled used = free_filled (suc (total used)) 0 used (filled_none used)
+
+-- so it is no greater than the number of those in use
+pub least_low : (used : List ℕ) → least_free used ≤ length used
+least_low used = filled_length (least_free used) used (least_filled used)

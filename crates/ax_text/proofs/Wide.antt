@@ -92,7 +92,7 @@ module _ (f : Facts) where
     of true p q = joined_wide n h.0 h.1 it.control two it.asks k (begin f k used) it.talk h.2 p h.4 h.5 (begin_wide n k used it.talk h.5)
     of false p q = joined_wide n h.0 h.1 one at.control at.asks k (begin f k used) at.talk h.2 h.3 q h.5 (begin_wide n k used at.talk h.5)
 
-  step_wide : (n : ℕ) (e : Event) (g : Going) → ControlWide n g.control → ControlWide n (step f e g).control
+  pub step_wide : (n : ℕ) (e : Event) (g : Going) → ControlWide n g.control → ControlWide n (step f e g).control
   unfolding give
   step_wide n (Serve s) g h = of (request_at g.control s) (g.answers s) where
     of : (q : Option Request) (a : Option Answer) → ControlWide n (serve_at s q a g).control
@@ -110,4 +110,4 @@ module _ (f : Facts) where
 
   pub stays_within : (t : Text) (cells : Cells) (es : List Event) → StaysWithin f t cells es
   unfolding CursorWide FrameWide
-  stays_within t cells es a = slots_wide (width t) (going f t cells es).control (steps_wide (width t) es (started f t (begun cells)) (begin_wide (width t) (Rest t ∷ []) [] (begun cells).talk (omega arith, tt)))
+  stays_within t cells es = slots_wide (width t) (going f t cells es).control (steps_wide (width t) es (started f t (begun cells)) (begin_wide (width t) (Rest t ∷ []) [] (begun cells).talk (omega arith, tt)))

@@ -24,7 +24,7 @@ EndsAsRun f t cells es = is_accepted t ≡ true → (going f t cells es).control
 
 -- at most as many requests wait as the text is wide
 abbrev pub StaysWithin : Facts → Text → Cells → List Event → Type 0
-StaysWithin f t cells es = is_accepted t ≡ true → length (slots (going f t cells es).control) ≤ width t
+StaysWithin f t cells es = length (slots (going f t cells es).control) ≤ width t
 
 -- what a callback asks is what waits behind it and didn't before
 abbrev pub AsksAtBegin : Facts → Cursor → List ℕ → Talk → Type 0

@@ -19,3 +19,4 @@ pub mod Suits
 pub mod Sound
 pub mod Silent
 pub mod Underway
+pub mod Rising

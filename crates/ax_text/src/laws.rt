@@ -4,26 +4,27 @@ ghost use Rattle.ax_text.specs.declared.vocabulary.Answer.{Answer as AnyAnswer};
 ghost use Rattle.ax_text.specs.declared.vocabulary.Request.{Request as AnyRequest};
 ghost use Rattle.ax_text.specs.declared.vocabulary.Kind.{Kind};
 ghost use Rattle.ax_text.specs.Exprs.{Facts};
-ghost use Rattle.ax_text.specs.Cells.{Cells};
+ghost use Rattle.ax_text.specs.Cells.{Cells, cells_after};
 ghost use Rattle.ax_text.specs.Texts.{Text};
-ghost use Rattle.ax_text.specs.Programs.{width};
-ghost use Rattle.ax_text.specs.Run.{Talk, World};
-ghost use Rattle.ax_text.specs.Controls.{Control, Done, Cursor, Event, Going, slots, waiting, is_done, request_at, give};
+ghost use Rattle.ax_text.specs.Programs.{width, untouched};
+ghost use Rattle.ax_text.specs.Run.{Talk, World, run};
+ghost use Rattle.ax_text.specs.Rising.{MapsRise};
+ghost use Rattle.ax_text.specs.Controls.{Ask', Control, Done, least_free, Cursor, Event, Going, slots, waiting, is_done, request_at, give, step};
 ghost use Rattle.ax_text.specs.Prints.{has};
 ghost use Rattle.ax_text.specs.Suits.{Suits, AsksSuit, fits_in};
 ghost use Rattle.ax_text.specs.Sound.{Split, IsWakeful, IsWaiting, BeginsSound, GivesSound};
 ghost use Rattle.ax_text.specs.Silent.{BeginTells, GiveTells, StepsSilently, BeginsAtOnce, ServesAtOnce, ServesMore};
-ghost use Rattle.ax_text.specs.Underway.{ServesAt, GivesAt, StartsUnderway, StepsUnderway};
+ghost use Rattle.ax_text.specs.Underway.{ServesAt, GivesAt, StartsUnderway, StepsUnderway, KeepsSlots, TakesLeast, BeginTakesLeast, GiveTakesLeast, IsLeastFree, SlotsRise, ArmsCommute};
 ghost use Rattle.ax_text.specs.Futures.{ComesToRun, EndsAsRun, StaysWithin, AsksAtBegin, AsksAtGive};
 ghost use Rattle.ax_text.specs.Rows.{Row, IsAccepted, follow, widened_by, now_of, text_of, wide, Body};
 
-/// Whatever the order in which the requests of a handler are served and their answers given, what was done and what is still to be done come together to what its run does.
+/// Whatever the order in which the requests of a handler of an accepted text are served and their answers given, what was done and what is still to be done come together to what its run does.
 #[tactic(auto, using(crate::proofs::Going::comes_to_run))]
 pub fn futures_come_to_the_run()
     ensures { (f : Facts) (t : Text) (cells : Cells) (events : List Event) → ComesToRun f t cells events }
 {}
 
-/// Where a handler is done, what it leaves is what its run leaves.
+/// Where a handler of an accepted text is done, what it leaves is what its run leaves.
 #[tactic(auto, using(crate::proofs::Going::ends_as_run))]
 pub fn futures_end_as_the_run()
     ensures { (f : Facts) (t : Text) (cells : Cells) (events : List Event) → EndsAsRun f t cells events }
@@ -93,10 +94,38 @@ pub fn an_answer_takes_none()
     ensures { (f : Facts) (g : Going) (s : ℕ) (a : AnyAnswer) → GivesAt f g s a }
 {}
 
+/// The slots of an accepted text differ, there are at most as many as the text is wide, and each is below that.
+pub fn slots_stay_apart_and_low()
+    ensures { (n : ℕ) (f : Facts) (text : Text) (cells : Cells) (events : List Event) → KeepsSlots n f text cells events }
+{}
+
+/// Each request that a callback asks takes the least slot that is free then, so slots rise in the order in which they are asked.
+pub fn the_least_slot_is_taken()
+    ensures begin { (f : Facts) (k : Cursor) (used : List ℕ) (t : Talk) → BeginTakesLeast f k used t }
+    ensures give { (f : Facts) (c : Control) (s : ℕ) (a : AnyAnswer) (t : Talk) → GiveTakesLeast f c s a t }
+    ensures rise { (used : List ℕ) (asks : List Ask') → TakesLeast used asks → SlotsRise asks }
+    ensures least { (used : List ℕ) → IsLeastFree used (least_free used) }
+{}
+
+/// The arms of an accepted text may run in either order.
+#[tactic(auto, using(crate::proofs::Commuting::arms_commute))]
+pub fn arms_commute()
+    ensures { (f : Facts) (one : Text) (two : Text) (rest : Text) (w : World) → ArmsCommute f one two rest w }
+{}
+
 /// Where a request waits, its answer changes the control.
 #[tactic(auto, using(crate::proofs::Moving::give_moves))]
 pub fn answers_move_on()
     ensures { (f : Facts) (c : Control) (s : ℕ) (a : AnyAnswer) (t : Talk) → has s (slots c) ≡ true → (give f c s a t).control ≢ c }
+{}
+
+/// The entries of a map strictly rise by their keys: before it is first touched, and behind every request, every run and every step.
+#[tactic(auto, using(crate::proofs::RisingKept::untouched_rise, crate::proofs::RisingKept::requests_keep, crate::proofs::RisingKept::runs_keep, crate::proofs::RisingKept::steps_keep))]
+pub fn maps_stay_rising()
+    ensures untouched { (kinds : List Kind) → MapsRise (untouched kinds) }
+    ensures request { (r : AnyRequest) (cells : Cells) → MapsRise cells → MapsRise (cells_after r cells) }
+    ensures run { (f : Facts) (text : Text) (w : World) → MapsRise w.cells → MapsRise (run f text w).cells }
+    ensures step { (f : Facts) (e : Event) (g : Going) → MapsRise g.world.cells → MapsRise (step f e g).world.cells }
 {}
 
 /// Lines of a handler that pass the tests of arms one after another make a text whose arms are silent and apart.

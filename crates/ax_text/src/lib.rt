@@ -1,4 +1,4 @@
-//! What a handler does on the state of one key, without any waiting: the definitions that every layer above cites.
+//! What a handler does on the states of one key, at once or as data that waits for answers: the definitions that every layer above cites.
 //!
 //! The definitions stand in `specs/`. Beside them stand the few plain types that they share with the code.
 #![tactic(auto)]

@@ -1,8 +1,9 @@
-use Rattle.std.proofs.Common.{◌≡◌, ◌∙◌, ap, ℕ, OnOk, OnErr, length, Ok, Err, Result, get_or, ◌<◌, map, slice_set}
+use Rattle.std.proofs.Common.{◌≡◌, ◌∙◌, ap, ℕ, OnOk, OnErr, length, Ok, Err, Result, get_or, ◌<◌, map, slice_set, ◌⊎◌, inl, inr}
 use Rattle.ax_text.specs.Cells.{Cell, kind_of, serves, cell_after, state_of}
+use Rattle.ax_text.specs.Rising.{MapsRise}
 use Rattle.ax_state.specs.Held.{shown_cell}
 use Rattle.ax_state.specs.KeyCells.{shown_cells, cell_kinds}
-use Rattle.ax_state.proofs.CellLemmas.{is_there, serves_it, served_cells, served_kinds, kept_cells, held_at}
+use Rattle.ax_state.proofs.CellLemmas.{is_there, serves_it, served_cells, served_kinds, kept_cells, held_at, served_rise}
 use Rattle.ax_state.proofs.cells.KeyCells.apply.Goals as goal
 
 on_ok : {T E P Q : Type 0} (r : Result T E) → OnOk r P → (P → Q) → OnOk r Q
@@ -59,3 +60,21 @@ returns-clause-err c =
     on_err c.serve.result c.serve.ensures.err (λ e.
     ap (λ (i : ℕ). map shown_cell (slice_set hs i h)) c.state.ensures
     ∙ kept_cells hs cells r h c.self.view_is c.requires (e ∙ here c))
+
+either : {T E P Q : Type 0} (r : Result T E) → OnOk r P → OnErr r Q → P ⊎ Q
+either (Ok x) p q = inl p
+either (Err e) p q = inr q
+
+rise : (c : goal.After-self-1) → MapsRise (shown_cells (map shown_cell (slice_set c.self.inside.held.items c.state.result c.serve.new.self)))
+rise c =
+    served_rise c.self.inside.held.items c.args.self.now c.args.r.now c.serve.new.self c.state.result c.state.ensures c.self.view_is c.requires
+    (either c.serve.result
+    (on_ok c.serve.result c.serve.ensures.cell (λ e. e ∙ ap (cell_after c.args.r.now) (here c)))
+    (on_err c.serve.result c.serve.ensures.err (λ e. e ∙ here c)))
+    c.self.invariant
+
+pub invariant_of-self : goal.invariant_of-self
+invariant_of-self c = rise c
+
+pub returns-clause-rising : goal.returns-clause-rising
+returns-clause-rising c = rise c

@@ -1,0 +1,72 @@
+-- A machine comes to what the run of its handler comes to.
+use Rattle.std.proofs.Common.{◌≡◌, ◌∙◌, ℕ, [], ◌∷◌, true, Option, Some, None, refl, sym, ap, subst}
+use Rattle.ax_text.specs.declared.vocabulary.Handler.{Handler}
+use Rattle.ax_text.specs.declared.vocabulary.Request.{Request}
+use Rattle.ax_text.specs.declared.vocabulary.Answer.{Answer}
+use Rattle.ax_text.specs.Functions.{upd}
+use Rattle.ax_text.specs.Exprs.{Facts}
+use Rattle.ax_text.specs.Cells.{Cells}
+use Rattle.ax_text.specs.Run.{begun}
+use Rattle.ax_text.specs.Silent.{silent, told_in, given_silently}
+use Rattle.ax_text.specs.Controls.{Turn, Going, Serve, Give, is_done, give, started, serve_at, request_at, step, comes_to}
+use Rattle.ax_text.specs.Underway.{IsUnderway}
+use Rattle.ax_text.proofs.Going.{start_underway, steps_ok, comes_to_run}
+use Rattle.ax_text.proofs.Steps.{done_left}
+use Rattle.ax_text.proofs.Telling.{steps_silently}
+use Rattle.ax_lang.specs.declared.program.Program.{Program}
+use Rattle.ax_future.specs.declared.machine.Machine.{Machine}
+use Rattle.ax_future.specs.declared.callback.Turn.{Turn as CodeTurn}
+use Rattle.ax_future.specs.Machines.{control_of, names_of, left_by}
+use Rattle.ax_future.specs.Lives.{text_of, begun_by, moved_by, StandsFor, Starts, Serves, Moves, Ends}
+use Rattle.ax_future.proofs.MachineLemmas.{handler_accepted}
+
+serve_control : (s : ℕ) (q : Option Request) (a : Option Answer) (g : Going) → (serve_at s q a g).control ≡ g.control
+serve_control s None a g = refl
+serve_control s (Some r) None g = refl
+serve_control s (Some r) (Some a) g = refl
+
+serve_names : (s : ℕ) (q : Option Request) (a : Option Answer) (g : Going) → (serve_at s q a g).world.talk.names ≡ g.world.talk.names
+serve_names s None a g = refl
+serve_names s (Some r) None g = refl
+serve_names s (Some r) (Some a) g = refl
+
+module _ (p : Program) (h : Handler) (f : Facts) (cells : Cells) where
+  pub starts : (m : Machine) (t : CodeTurn) → Starts p h f cells m t
+  starts m t q = record {
+    control = refl;
+    names = refl;
+    underway = subst IsUnderway here (start_underway f (text_of p h) (begun cells) (handler_accepted p h));
+    same = sym (ap (comes_to f) here) ∙ comes_to_run f (text_of p h) cells [] (handler_accepted p h);
+  }
+    where
+      here : started f (text_of p h) (begun cells) ≡ begun_by p cells m t
+      here = ap (λ (it : Turn). record { control = it.control; answers = λ s. None; world = record { talk = it.talk; cells = cells; served = 0 } }) q
+
+  pub serves : (m : Machine) (g : Going) (s : ℕ) → Serves p h f cells m g s
+  serves m g s k =
+      let e = steps_ok f (Serve s ∷ []) g k.underway in
+      record {
+        control = k.control ∙ sym (serve_control s (request_at g.control s) (g.answers s) g);
+        names = k.names ∙ sym (serve_names s (request_at g.control s) (g.answers s) g);
+        underway = e.0;
+        same = e.1 ∙ k.same;
+      }
+
+  pub moves : (m : Machine) (g : Going) (s : ℕ) (a : Answer) (m' : Machine) (t : CodeTurn) → Moves p h f cells m g s a m' t
+  moves m g s a m' t k n q = record {
+    control = refl;
+    names = refl;
+    underway = subst IsUnderway here kept.0;
+    same = sym (ap (comes_to f) here) ∙ (kept.1 ∙ k.same);
+  }
+    where
+      kept = steps_ok f (Give s ∷ []) g k.underway
+
+      gave : give f g.control s a (silent g.world.talk.names) ≡ left_by p m' t
+      gave = sym (ap (λ c. give f c s a (silent g.world.talk.names)) k.control) ∙ (sym (ap (λ ns. give f (control_of p m) s a (silent ns)) k.names) ∙ q)
+
+      here : step f (Give s) g ≡ moved_by p s g m' t
+      here = steps_silently f s a g n ∙ ap (λ (it : Turn). record { control = it.control; answers = upd g.answers s None; world = told_in g.world it.talk }) gave
+
+  pub ends : (m : Machine) (g : Going) → Ends p h f cells m g
+  ends m g k d = sym (done_left f g.control g.answers (sym (ap is_done k.control) ∙ d) g.world) ∙ k.same

@@ -1,0 +1,160 @@
+//! A handler on its way.
+ghost use Rattle.std.specs.Prelude.{◌≡◌, ◌≤◌, ◌↔◌, ◌∷◌, [], true, pos, ℕ, IsTrue, IfOk, OnOk, OnErr};
+ghost use Rattle.ax_text.specs.Jobs.{text_for};
+ghost use Rattle.ax_text.specs.Prints.{has};
+ghost use Rattle.ax_text.specs.Silent.{silent};
+ghost use Rattle.ax_text.specs.Underway.{TakesLeast, SlotsRise};
+ghost use Rattle.ax_text.specs.Controls.{Rest, Done, slots, waiting, replaced, without, is_done, begin, give};
+ghost use Rattle.ax_lang.specs.declared.program.Program.{Program as AnyProgram};
+ghost use Rattle.ax_lang.specs.Shown.{shown_program};
+ghost use Rattle.ax_future.specs.Least.{IsLeastWaiting};
+ghost use Rattle.ax_future.specs.Nodes.{control_in};
+ghost use Rattle.ax_future.specs.Talks.{facts_in, asks_in};
+
+use crate::answers::{add_others, give_in, waits_at};
+use crate::begin::{begin, only};
+use crate::callback::{Facts, Turn};
+use crate::going::Going;
+use crate::least::least_of;
+use crate::node::Node;
+use ax_base::{ListOf, NoMemory};
+use ax_lang::Program;
+use ax_text::{Answer, Handler, Request};
+use std::alloc::Global;
+use std::mem;
+
+/// A handler on its way: where it stands, and the numbers of its local names.
+///
+/// Each call that takes a program or facts is to be given those that `start` was given.
+#[derive(Drop)]
+pub struct Machine {
+    alloc: Global,
+    node: Node,
+    names: Vec<i64>,
+}
+
+// Nothing said yet.
+fn silent(alloc: Global, names: Vec<i64>) -> Going
+    ensures { result ≡ record { names = names; asks = []; outs = []; timer_ops = [] } }
+{
+    Going {
+        names,
+        asks: ListOf::new(alloc),
+        outs: ListOf::new(alloc),
+        timer_ops: ListOf::new(alloc),
+    }
+}
+
+// The slots where a node waits, but one.
+fn others_of(alloc: Global, node: &Node, slot: u8) -> Result<Vec<u8>, NoMemory>
+    ensures { IfOk result (λ others. (p : AnyProgram) → others.items ≡ without slot (slots (control_in p node.now))) }
+{
+    let mut others = Vec::new(alloc);
+    add_others(node, slot, &mut others)?;
+    Ok(others)
+}
+
+impl Machine {
+    ghost use Rattle.ax_future.specs.Machines.{control_of, names_of, left_by, IsSound};
+
+    /// Runs a handler until each live arm waits for an answer or has ended. A handler that the program doesn't have
+    /// is done at once. The only fault is `NoMemory`.
+    ///
+    /// A request takes the least slot that is free, and the first arm of a `both` asks before the second.
+    pub fn start(
+        alloc: Global,
+        program: &Program,
+        handler: Handler,
+        facts: &Facts,
+    ) -> Result<(Machine, Turn), NoMemory>
+        ensures turn { IfOk result (λ r. begin (facts_in facts.now) (Rest (text_for (shown_program program.now) handler) ∷ []) [] (silent (λ i. pos 0)) ≡ left_by program.now r.0 r.1) }
+        ensures sound { IfOk result (λ r. IsSound program.now r.0) }
+        ensures asks { IfOk result (λ r. waiting (control_of program.now r.0) ≡ asks_in r.1.asks) }
+        ensures least { IfOk result (λ r. TakesLeast [] (asks_in r.1.asks)) }
+        ensures rise { IfOk result (λ r. SlotsRise (asks_in r.1.asks)) }
+    {
+        let mut going = silent(alloc, Vec::new(alloc));
+        let cursor = only(alloc, program.place_of(handler))?;
+        let node = begin(alloc, program, facts, &[], cursor, &mut going)?;
+        let Going {
+            names,
+            asks,
+            outs,
+            timer_ops,
+        } = going;
+        let turn = Turn {
+            asks,
+            outs,
+            timer_ops,
+        };
+        Ok((Machine { alloc, node, names }, turn))
+    }
+
+    /// Gives the answer of a slot, and runs on. What it asks is what waits then and didn't before. It takes time for
+    /// the arms that wait and for what it runs, and none for what is behind. After `NoMemory`, its only fault, the
+    /// machine waits for nothing, and may only be dropped.
+    ///
+    /// Condition: `waits(slot)`, and the machine is sound for the program, as `start` and `resume` leave it.
+    pub fn resume(
+        &mut self,
+        program: &Program,
+        facts: &Facts,
+        slot: u8,
+        answer: Answer,
+    ) -> Result<Turn, NoMemory>
+        requires sound { IsSound program.now self.old }
+        requires waits { has slot (slots (control_of program.now self.old)) ≡ true }
+        ensures turn { IfOk result (λ turn. give (facts_in facts.now) (control_of program.now self.old) slot answer (silent (names_of self.old)) ≡ left_by program.now self.new turn) }
+        ensures sound { OnOk result (IsSound program.now self.new) }
+        ensures asks { IfOk result (λ turn. waiting (control_of program.now self.new) ≡ replaced slot (asks_in turn.asks) (waiting (control_of program.now self.old))) }
+        ensures least { IfOk result (λ turn. TakesLeast (without slot (slots (control_of program.now self.old))) (asks_in turn.asks)) }
+        ensures rise { IfOk result (λ turn. SlotsRise (asks_in turn.asks)) }
+        ensures stopped { OnErr result (control_of program.now self.new ≡ Done) }
+    {
+        let alloc = self.alloc;
+        let node = mem::replace(&mut self.node, Node::Done);
+        let names = mem::replace(&mut self.names, Vec::new(alloc));
+        let others = others_of(alloc, &node, slot)?;
+        let mut going = silent(alloc, names);
+        let node = give_in(
+            alloc, program, facts, &others, node, slot, answer, &mut going,
+        )?;
+        let Going {
+            names,
+            asks,
+            outs,
+            timer_ops,
+        } = going;
+        self.node = node;
+        self.names = names;
+        Ok(Turn {
+            asks,
+            outs,
+            timer_ops,
+        })
+    }
+
+    /// Whether it is done: exactly where no slot waits.
+    #[tactic(auto, using(crate::proofs::MachineLemmas::done_where_none))]
+    pub fn is_done(&self) -> bool
+        ensures value { (p : AnyProgram) → result ≡ is_done (control_of p self.now) }
+        ensures none { (p : AnyProgram) → IsSound p self.now → IsTrue result ↔ (slots (control_of p self.now) ≡ []) }
+    {
+        matches!(&self.node, Node::Done)
+    }
+
+    /// Whether a request waits at a slot.
+    pub fn waits(&self, slot: u8) -> bool
+        ensures { (p : AnyProgram) → result ≡ has slot (slots (control_of p self.now)) }
+    {
+        waits_at(&self.node, slot)
+    }
+
+    /// The request that waits at the least slot, with the slot. `None` exactly where it is done.
+    #[tactic(auto, using(crate::proofs::LeastLemmas::sound_least))]
+    pub fn least_waiting(&self) -> Option<(u8, &Request)>
+        ensures { (p : AnyProgram) → IsSound p self.now → IsLeastWaiting (control_of p self.now) result }
+    {
+        least_of(&self.node)
+    }
+}
