@@ -24,7 +24,7 @@ use Rattle.ax_text.specs.KeyStates.{KeyState}
 use Rattle.ax_machine.proofs.FiringLemmas.{next_is, next_none_is, key_is, one_less_own, one_less_other}
 use Rattle.ax_machine.specs.Firings as machine
 use Rattle.ax_plain.specs.declared.agenda.Due.{Due}
-use Rattle.ax_plain.specs.Agenda.{due, timer_of, order, firings_at, Lists, without, NoneFires, IsFirstDue, Puts, firings_left, HasSome}
+use Rattle.ax_plain.specs.Agenda.{shown_due, timer_of, order, firings_at, Lists, without, NoneFires, IsFirstDue, Puts, firings_left, HasSome}
 
 -- ---- the order of due timers
 
@@ -111,7 +111,7 @@ unsome a b e = ap (λ o. unwrap_or o a) e
 abbrev pub of_machine : machine.Due → Due
 of_machine c = record { time = c.time; key = c.key }
 
-of_due : (a b : Due) → due a ≡ due b → a ≡ b
+of_due : (a b : Due) → shown_due a ≡ shown_due b → a ≡ b
 of_due a b e = ap of_machine e
 
 -- ---- the firings left
@@ -142,7 +142,7 @@ some_left left n some e = subst (λ (m : ℕ). 0 < m) (unsome left n e) some
 module _ (w : ℤ) where
   -- a timer is the one with which its key may fire, and its key has so many firings left
   abbrev pub IsListed : (Key → ℕ) → (Key → List ℤ) → Due → ℕ → Type 0
-  IsListed more times d n = (timer_of w (more d.key) d.key (times d.key) ≡ Some (due d)) × (more d.key ≡ n)
+  IsListed more times d n = (timer_of w (more d.key) d.key (times d.key) ≡ Some (shown_due d)) × (more d.key ≡ n)
 
   -- the same entries list the same
   pub listed_as : (more : Key → ℕ) (times : Key → List ℤ) (es now : List (Due × ℕ)) → es ≡ now → Lists w more times now → Lists w more times es
@@ -206,14 +206,14 @@ module _ (w : ℤ) where
         own : (q : Due) (m : ℕ) → bytes_eq d.key q.key ≡ true → (firings_at es' q ≡ Some m) ↔ IsListed (without d.key more) times q m
         own q m e = (λ h. absurd (gone (is_at (order d) q) refl h), λ h. absurd (never h)) where
           never : IsListed (without d.key more) times q m → ⊥
-          never h = none_some (timer_of w (without d.key more q.key) q.key (times q.key)) (due q) (ap (λ b. timer_of w (cond b 0 (more q.key)) q.key (times q.key)) e) h.0
+          never h = none_some (timer_of w (without d.key more q.key) q.key (times q.key)) (shown_due q) (ap (λ b. timer_of w (cond b 0 (more q.key)) q.key (times q.key)) e) h.0
 
           gone : (b : Bool) → is_at (order d) q ≡ b → firings_at es' q ≡ Some m → ⊥
           gone true f h = none_some (firings_at es' q) m (left q ∙ ap (λ b. cond b None (firings_at es q)) f) h
           gone false f h =
               let was : firings_at es q ≡ Some m = sym (left q ∙ ap (λ b. cond b None (firings_at es q)) f) ∙ h in
-              let first : timer_of w (more q.key) q.key (times q.key) ≡ Some (due d) = subst (λ (k : Key). timer_of w (more k) k (times k) ≡ Some (due d)) (key_is d.key q.key e) ((lists d n).0 at).0 in
-              let same : d ≡ q = of_due d q (unsome (due d) (due q) (sym first ∙ ((lists q m).0 was).0)) in
+              let first : timer_of w (more q.key) q.key (times q.key) ≡ Some (shown_due d) = subst (λ (k : Key). timer_of w (more k) k (times k) ≡ Some (shown_due d)) (key_is d.key q.key e) ((lists d n).0 at).0 in
+              let same : d ≡ q = of_due d q (unsome (shown_due d) (shown_due q) (sym first ∙ ((lists q m).0 was).0)) in
               true≢false (sym (place_of d q same) ∙ f)
 
   -- the timer with which a key may fire, by what is put in
@@ -226,7 +226,7 @@ module _ (w : ℤ) where
   -- a key of which no firing is left is not on the agenda
   not_there : (key : Key) (more : Key → ℕ) (times : Key → List ℤ) (es : List (Due × ℕ)) → Lists w (without key more) times es
       → (q : Due) → bytes_eq key q.key ≡ true → (n : ℕ) → firings_at es q ≡ Some n → ⊥
-  not_there key more times es lists q e n h = none_some (timer_of w (without key more q.key) q.key (times q.key)) (due q) (ap (λ b. timer_of w (cond b 0 (more q.key)) q.key (times q.key)) e) ((lists q n).0 h).0
+  not_there key more times es lists q e n h = none_some (timer_of w (without key more q.key) q.key (times q.key)) (shown_due q) (ap (λ b. timer_of w (cond b 0 (more q.key)) q.key (times q.key)) e) ((lists q n).0 h).0
 
   -- a key that may not fire stays off
   pub stays_off : (key : Key) (least : Option ℤ) (left : ℕ) (es : List (Due × ℕ)) → timer_at w left key least ≡ None → Puts w key least left es es
@@ -234,10 +234,10 @@ module _ (w : ℤ) where
       (λ q e. sym (ap (λ b. cond b 0 (more q)) e))
       (λ q e. refl)
       (λ q e. refl)
-      (λ q n e. (λ h. absurd (not_there key more times es lists q e n h), λ h. absurd (none_some (timer_of w (more q.key) q.key (times q.key)) (due q) (own_timer key least left more times m t q.key e ∙ none) h.0)))
+      (λ q n e. (λ h. absurd (not_there key more times es lists q e n h), λ h. absurd (none_some (timer_of w (more q.key) q.key (times q.key)) (shown_due q) (own_timer key least left more times m t q.key e ∙ none) h.0)))
 
   -- a key that may fire stands there with its first timer
-  pub came : (d : Due) (least : Option ℤ) (left : ℕ) (es es' : List (Due × ℕ)) → timer_at w left d.key least ≡ Some (due d)
+  pub came : (d : Due) (least : Option ℤ) (left : ℕ) (es es' : List (Due × ℕ)) → timer_at w left d.key least ≡ Some (shown_due d)
       → ((q : Due) → firings_at es' q ≡ cond (is_at (order d) q) (Some left) (firings_at es q))
       → Puts w d.key least left es es'
   came d least left es es' is put more times lists m t = changed d.key (without d.key more) more times times es es' lists
@@ -247,7 +247,7 @@ module _ (w : ℤ) where
       own where
         own : (q : Due) (n : ℕ) → bytes_eq d.key q.key ≡ true → (firings_at es' q ≡ Some n) ↔ IsListed more times q n
         own q n e = (there (is_at (order d) q) refl, back) where
-          now : timer_of w (more q.key) q.key (times q.key) ≡ Some (due d)
+          now : timer_of w (more q.key) q.key (times q.key) ≡ Some (shown_due d)
           now = own_timer d.key least left more times m t q.key e ∙ is
 
           left_is : more q.key ≡ left
@@ -256,12 +256,12 @@ module _ (w : ℤ) where
           there : (b : Bool) → is_at (order d) q ≡ b → firings_at es' q ≡ Some n → IsListed more times q n
           there true f h =
               let same : d ≡ q = tells_apart exact d q f in
-              (now ∙ ap (λ (x : Due). Some (due x)) same, left_is ∙ unsome left n (sym (put q ∙ ap (λ b. cond b (Some left) (firings_at es q)) f) ∙ h))
+              (now ∙ ap (λ (x : Due). Some (shown_due x)) same, left_is ∙ unsome left n (sym (put q ∙ ap (λ b. cond b (Some left) (firings_at es q)) f) ∙ h))
           there false f h = absurd (not_there d.key more times es lists q e n (sym (put q ∙ ap (λ b. cond b (Some left) (firings_at es q)) f) ∙ h))
 
           back : IsListed more times q n → firings_at es' q ≡ Some n
           back h =
-              let same : d ≡ q = of_due d q (unsome (due d) (due q) (sym now ∙ h.0)) in
+              let same : d ≡ q = of_due d q (unsome (shown_due d) (shown_due q) (sym now ∙ h.0)) in
               put q ∙ ap (λ b. cond b (Some left) (firings_at es q)) (place_of d q same) ∙ ap Some (sym left_is ∙ h.1)
 
 -- ---- the agenda as a watermark comes
@@ -303,9 +303,9 @@ module _ (w : ℤ) (times : Key → List ℤ) where
   -- at first no key is on it
   pub starts : (keys : List Key) → ((q : Key) → Contains keys q ↔ HasDue w (times q)) → Lists w (yet keys) times []
   starts keys all d n = (λ h. absurd (none_some w None n refl h), λ h. absurd (go (list_any (bytes_eq d.key) keys) refl h.0)) where
-    go : (b : Bool) → list_any (bytes_eq d.key) keys ≡ b → timer_of w (yet keys d.key) d.key (times d.key) ≡ Some (due d) → ⊥
-    go true e h = none_some w (timer_of w (yet keys d.key) d.key (times d.key)) (due d) (ap (λ b. timer_of w (cond b 0 most_firings) d.key (times d.key)) e) h
-    go false e h = true≢false (sym (in_keys d.key keys ((all d.key).1 (has_due d.key (yet keys d.key) (due d) h))) ∙ e)
+    go : (b : Bool) → list_any (bytes_eq d.key) keys ≡ b → timer_of w (yet keys d.key) d.key (times d.key) ≡ Some (shown_due d) → ⊥
+    go true e h = none_some w (timer_of w (yet keys d.key) d.key (times d.key)) (shown_due d) (ap (λ b. timer_of w (cond b 0 most_firings) d.key (times d.key)) e) h
+    go false e h = true≢false (sym (in_keys d.key keys ((all d.key).1 (has_due d.key (yet keys d.key) (shown_due d) h))) ∙ e)
 
   -- the next key is put on it
   pub goes_on : (k : Key) (rest : List Key) (es es' : List (Due × ℕ)) (least : Option ℤ) → IsStrictlySortedBy key_cmp (k ∷ rest) → Lists w (yet (k ∷ rest)) times es
@@ -329,7 +329,7 @@ others_stay w key more more' times times' agenda m t lists = changed w key (with
     (λ q e. ap (λ b. cond b 0 (more' q)) e ∙ m q e ∙ sym (ap (λ b. cond b 0 (more q)) e))
     t
     (λ q e. refl)
-    (λ q n e. (λ h. absurd (not_there w key more times agenda lists q e n h), λ h. absurd (none_some w (timer_of w (without key more' q.key) q.key (times' q.key)) (due q) (ap (λ b. timer_of w (cond b 0 (more' q.key)) q.key (times' q.key)) e) h.0)))
+    (λ q n e. (λ h. absurd (not_there w key more times agenda lists q e n h), λ h. absurd (none_some w (timer_of w (without key more' q.key) q.key (times' q.key)) (shown_due q) (ap (λ b. timer_of w (cond b 0 (more' q.key)) q.key (times' q.key)) e) h.0)))
 
 -- the key fired: one firing less is left of it, and it has other times
 pub fired : (w : ℤ) (key : Key) (more : Key → ℕ) (times times' : Key → List ℤ) (agenda : List (Due × ℕ))
@@ -356,8 +356,8 @@ module _ (w : ℤ) (more : Key → ℕ) (map : Key → KeyState) (times : Key �
   own_candidate k = candidate_of (more k) k (map k) ∙ ap (timer_of w (more k) k) (sym (has k))
 
   -- what was popped fires next
-  pub pops_next : (keys : List Key) (d : Due) (n : ℕ) → list_any (bytes_eq d.key) keys ≡ true → IsFirstDue w more times d n → next_due w keys more map ≡ Some (due d)
-  pops_next keys d n known next = next_is w keys more map (due d) (record {
+  pub pops_next : (keys : List Key) (d : Due) (n : ℕ) → list_any (bytes_eq d.key) keys ≡ true → IsFirstDue w more times d n → next_due w keys more map ≡ Some (shown_due d)
+  pops_next keys d n known next = next_is w keys more map (shown_due d) (record {
     known = known;
     own = own_candidate d.key ∙ next.is;
     first = λ k c there e. next.first k c (sym (own_candidate k) ∙ e);

@@ -7,11 +7,11 @@ use Rattle.std.specs.Str.{bytes_eq}
 use Rattle.std.specs.BTreeMap.{get, is_at, keys}
 use mathlib.Core.Path.{fun_ext}
 use Rattle.ax_base.proofs.OutsideLemmas.{Appends-none, Appends-more}
+use Rattle.ax_text.specs.declared.vocabulary.Handler.TheVariants as handler
 use Rattle.ax_text.specs.declared.vocabulary.Kind.{Kind}
 use Rattle.ax_text.specs.Cells.{Cell, Cells}
 use Rattle.ax_text.specs.Exprs.{Facts}
 use Rattle.ax_text.specs.Programs.{Program, text_or_stop}
-use Rattle.ax_text.specs.Texts.{Text}
 use Rattle.ax_text.specs.Times.{least_time, later_times}
 use Rattle.ax_text.specs.Run.{World, run, begun, state_after}
 use Rattle.ax_text.specs.Jobs.{firing_job, job_run}
@@ -26,10 +26,10 @@ use Rattle.ax_machine.specs.Sync.{Map, Plain, does, without_least, fire, fire_al
 use Rattle.ax_machine.proofs.FiringLemmas.{total, key_is, total_most, fire_all_next, fire_all_end}
 use Rattle.ax_machine.proofs.StepLemmas.{fire_all_writes, text_of-append}
 use Rattle.ax_lang.specs.declared.program.Program.{Program as CodeProgram}
-use Rattle.ax_lang.specs.Shown.{shown_program, text_from}
+use Rattle.ax_lang.specs.Shown.{shown_program}
 use Rattle.ax_plain.specs.declared.agenda.Due.{Due}
 use Rattle.ax_plain.specs.declared.handler.RunFacts.{RunFacts}
-use Rattle.ax_plain.specs.Agenda.{due, timer_of, Lists, without, NoneFires, IsFirstDue, Puts}
+use Rattle.ax_plain.specs.Agenda.{shown_due, timer_of, Lists, without, NoneFires, IsFirstDue, Puts}
 use Rattle.ax_plain.specs.Handler.{shown_run_facts}
 use Rattle.ax_base.specs.Outside.{AppendsSome}
 use Rattle.ax_plain.specs.Plain.{Held, cells_or, map_of, Fits, run_at}
@@ -63,12 +63,12 @@ taken_fits kinds m t u k f p = record {
     by_key q none false e = puts_elsewhere t u k q (later_times (times_of t k)) p e ∙ none
 
 -- then the run of its handler is a firing
-pub fired_is : (p : CodeProgram) (place : ℕ) (facts : RunFacts) (kinds : List Kind) (m : Held) (t u : List Timer) (wm : ℤ) (d : machine.Due)
+pub fired_is : (p : CodeProgram) (facts : RunFacts) (kinds : List Kind) (m : Held) (t u : List Timer) (wm : ℤ) (d : machine.Due)
     → PutsTimes t u d.key (later_times (times_of t d.key))
-    → shown_run_facts facts ≡ record { time = d.time; wm = wm; values = [] } → text_from p place ≡ text_or_stop (shown_program p).timer
-    → run_at p place facts d.key (plain wm (keys m) (map_of kinds m u)) ≡ fire (shown_program p) d (plain wm (keys m) (map_of kinds m t))
-fired_is p place facts kinds m t u wm d h ef et =
-    ap₂ (λ (f : Facts) (x : Text). does d.key (map_of kinds m u d.key) (run f x (begun cells)) (plain wm (keys m) (map_of kinds m u))) ef et
+    → shown_run_facts facts ≡ record { time = d.time; wm = wm; values = [] }
+    → run_at p handler.Timer facts d.key (plain wm (keys m) (map_of kinds m u)) ≡ fire (shown_program p) d (plain wm (keys m) (map_of kinds m t))
+fired_is p facts kinds m t u wm d h ef =
+    ap (λ (f : Facts). does d.key (map_of kinds m u d.key) (run f (text_or_stop (shown_program p).timer) (begun cells)) (plain wm (keys m) (map_of kinds m u))) ef
     ∙ ap (λ ts. does d.key (key_state cells ts) ran (plain wm (keys m) (map_of kinds m u))) (puts_at t u d.key later h)
     ∙ ap (λ (x : Map). record { wm = wm; keys = keys m; map = x; entries = says d.key ran.talk.lines }) (fun_ext (λ q. elsewhere q (bytes_eq d.key q) refl))
   where
@@ -97,7 +97,7 @@ own_least w (suc n) k (t ∷ ts) d e = by_due (int_le t w) e where
   by_due false h = absurd (cc)
 
 pub least_is : (w : ℤ) (more : Key → ℕ) (times : Key → List ℤ) (d : Due) (n : ℕ) → IsFirstDue w more times d n → least_time (times d.key) ≡ Some d.time
-least_is w more times d n next = own_least w (more d.key) d.key (times d.key) (due d) next.is
+least_is w more times d n next = own_least w (more d.key) d.key (times d.key) (shown_due d) next.is
 
 -- ---- all firings of a watermark
 
@@ -141,36 +141,36 @@ module _ (p : Program) (whole : Plain) (h0 h : Option (List ℕ)) (s : Plain) (a
 
   -- a timer fires
   module _ (d : Due) (n : ℕ) (known : list_any (bytes_eq d.key) s.keys ≡ true) (next : IsFirstDue s.wm g.more (λ k. (s.map k).times) d n) where
-    far : (less : ℕ) × (fire_all p g.fuel g.more (said g.written s) ≡ fire_all p less (one_less g.more d.key) (fire p (due d) (said g.written s))) × (total s.keys (one_less g.more d.key) ≤ less)
-    far = fire_all_next p g.fuel g.more (said g.written s) (due d) (pops_next s.wm g.more s.map (λ k. (s.map k).times) (λ k. refl) s.keys d n known next) g.enough
+    far : (less : ℕ) × (fire_all p g.fuel g.more (said g.written s) ≡ fire_all p less (one_less g.more d.key) (fire p (shown_due d) (said g.written s))) × (total s.keys (one_less g.more d.key) ≤ less)
+    far = fire_all_next p g.fuel g.more (said g.written s) (shown_due d) (pops_next s.wm g.more s.map (λ k. (s.map k).times) (λ k. refl) s.keys d n known next) g.enough
 
     -- what is written behind it
     tail : List Entry
-    tail = (fire_all p far.0 (one_less g.more d.key) (silent (fire p (due d) (said g.written s)))).entries
+    tail = (fire_all p far.0 (one_less g.more d.key) (silent (fire p (shown_due d) (said g.written s)))).entries
 
-    whole_text : text_of g.written ++ (text_of (fire p (due d) (said [] s)).entries ++ text_of tail) ≡ text_of whole.entries
+    whole_text : text_of g.written ++ (text_of (fire p (shown_due d) (said [] s)).entries ++ text_of tail) ≡ text_of whole.entries
     unfolding tail
     whole_text =
-        let now : List Entry = (fire p (due d) (said [] s)).entries in
+        let now : List Entry = (fire p (shown_due d) (said [] s)).entries in
         sym (append_assoc (text_of g.written) (text_of now) (text_of tail))
         ∙ ap (λ x. x ++ text_of tail) (sym (text_of-append g.written now))
         ∙ sym (text_of-append (g.written ++ now) tail)
-        ∙ ap (λ (x : Plain). text_of x.entries) (sym (fire_all_writes p far.0 (one_less g.more d.key) (fire p (due d) (said g.written s))) ∙ sym far.1 ∙ g.rest)
+        ∙ ap (λ (x : Plain). text_of x.entries) (sym (fire_all_writes p far.0 (one_less g.more d.key) (fire p (shown_due d) (said g.written s))) ∙ sym far.1 ∙ g.rest)
 
-    pub firing_failed : (h' : Option (List ℕ)) → AppendsSome h h' (text_of (fire p (due d) (said [] s)).entries) → AppendsSome h0 h' (text_of whole.entries)
-    firing_failed h' a = AppendsSome-behind h0 h h' (text_of g.written) (text_of (fire p (due d) (said [] s)).entries) (text_of tail) (text_of whole.entries) g.grown a whole_text
+    pub firing_failed : (h' : Option (List ℕ)) → AppendsSome h h' (text_of (fire p (shown_due d) (said [] s)).entries) → AppendsSome h0 h' (text_of whole.entries)
+    firing_failed h' a = AppendsSome-behind h0 h h' (text_of g.written) (text_of (fire p (shown_due d) (said [] s)).entries) (text_of tail) (text_of whole.entries) g.grown a whole_text
 
     -- the firing was written, and then there was no memory
-    pub firing_cut : (h' : Option (List ℕ)) → Appends h h' (text_of (fire p (due d) (said [] s)).entries) → AppendsSome h0 h' (text_of whole.entries)
-    firing_cut h' a = firing_failed h' (AppendsSome-all h h' (text_of (fire p (due d) (said [] s)).entries) a)
+    pub firing_cut : (h' : Option (List ℕ)) → Appends h h' (text_of (fire p (shown_due d) (said [] s)).entries) → AppendsSome h0 h' (text_of whole.entries)
+    firing_cut h' a = firing_failed h' (AppendsSome-all h h' (text_of (fire p (shown_due d) (said [] s)).entries) a)
 
     -- and the key is put back
-    pub went_on : (h' : Option (List ℕ)) (s' : Plain) (left agenda' : List (Due × ℕ)) (least : Option ℤ) → s' ≡ silent (fire p (due d) (said [] s))
-        → Appends h h' (text_of (fire p (due d) (said [] s)).entries)
+    pub went_on : (h' : Option (List ℕ)) (s' : Plain) (left agenda' : List (Due × ℕ)) (least : Option ℤ) → s' ≡ silent (fire p (shown_due d) (said [] s))
+        → Appends h h' (text_of (fire p (shown_due d) (said [] s)).entries)
         → Lists s.wm (without d.key g.more) (λ k. (s.map k).times) left → least ≡ least_time (s'.map d.key).times → Puts s.wm d.key least (n - 1) left agenda'
         → Firing p whole h0 h' s' agenda'
     went_on h' s' left agenda' least stands a lists first puts =
-        let now : List Entry = (fire p (due d) (said [] s)).entries in
+        let now : List Entry = (fire p (shown_due d) (said [] s)).entries in
         let others : (q : Key) → bytes_eq d.key q ≡ false → (s'.map q).times ≡ (s.map q).times = (λ q e. ap (λ (x : Plain). (x.map q).times) stands ∙ other q e) in
         let F : Plain → Type 0 = λ x. total x.keys (one_less g.more d.key) ≤ far.0 in
         let L : ℤ → Type 0 = λ w. Lists w (one_less g.more d.key) (λ k. (s'.map k).times) agenda' in
@@ -184,7 +184,7 @@ module _ (p : Program) (whole : Plain) (h0 h : Option (List ℕ)) (s : Plain) (a
           lists = subst L (sym (ap (λ (x : Plain). x.wm) stands)) (put_back s.wm d.key g.more (λ k. (s.map k).times) (λ k. (s'.map k).times) n least left agenda' others next.left first lists puts);
         }
       where
-        other : (q : Key) → bytes_eq d.key q ≡ false → ((fire p (due d) (said [] s)).map q).times ≡ (s.map q).times
+        other : (q : Key) → bytes_eq d.key q ≡ false → ((fire p (shown_due d) (said [] s)).map q).times ≡ (s.map q).times
         other q e = ap (λ (b : Bool). (cond b (state_after (without_least (s.map d.key)) (job_run p (firing_job s.wm d.time) (s.map d.key).cells)) (s.map q)).times) e
 
 -- ---- the line of the watermark

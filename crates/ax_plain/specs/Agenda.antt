@@ -14,12 +14,12 @@ use Rattle.ax_machine.specs.Firings as machine
 use Rattle.ax_plain.specs.declared.agenda.Due.{Due}
 
 -- a due timer, as the plain thread speaks of it
-abbrev pub due : Due → machine.Due
-due d = record { time = d.time; key = d.key }
+abbrev pub shown_due : Due → machine.Due
+shown_due d = record { time = d.time; key = d.key }
 
 -- due timers compared by time, and then by key
 abbrev pub order : Due → Due → Ordering
-order a b = due_cmp (due a) (due b)
+order a b = due_cmp (shown_due a) (shown_due b)
 
 -- the firings left of the key of a timer on the agenda
 abbrev pub firings_at : List (Due × ℕ) → Due → Option ℕ
@@ -27,7 +27,7 @@ firings_at agenda d = lookup (is_at (order d)) agenda
 
 -- a timer is on the agenda exactly where it is the one with which its key may fire, and it stands there with the firings left of the key
 abbrev pub Lists : ℤ → (Key → ℕ) → (Key → List ℤ) → List (Due × ℕ) → Type 0
-Lists w more times agenda = (d : Due) (n : ℕ) → (firings_at agenda d ≡ Some n) ↔ ((timer_of w (more d.key) d.key (times d.key) ≡ Some (due d)) × (more d.key ≡ n))
+Lists w more times agenda = (d : Due) (n : ℕ) → (firings_at agenda d ≡ Some n) ↔ ((timer_of w (more d.key) d.key (times d.key) ≡ Some (shown_due d)) × (more d.key ≡ n))
 
 -- the same firings left, but none of this key
 abbrev pub without : Key → (Key → ℕ) → Key → ℕ
@@ -39,9 +39,9 @@ NoneFires w more times = (k : Key) → timer_of w (more k) k (times k) ≡ None
 
 -- of the timers with which keys may fire it is the first, and its key may fire so many times more
 pub record IsFirstDue (w : ℤ) (more : Key → ℕ) (times : Key → List ℤ) (d : Due) (n : ℕ) : Type 0 where
-  pub is : timer_of w (more d.key) d.key (times d.key) ≡ Some (due d)
+  pub is : timer_of w (more d.key) d.key (times d.key) ≡ Some (shown_due d)
   pub left : more d.key ≡ n
-  pub first : (k : Key) (c : machine.Due) → timer_of w (more k) k (times k) ≡ Some c → is_lt (due_cmp c (due d)) ≡ false
+  pub first : (k : Key) (c : machine.Due) → timer_of w (more k) k (times k) ≡ Some c → is_lt (due_cmp c (shown_due d)) ≡ false
 
 -- the key that was not on the agenda stands there now, where it may fire: it has so many firings left, and this first timer
 abbrev pub Puts : ℤ → Key → Option ℤ → ℕ → List (Due × ℕ) → List (Due × ℕ) → Type 0

@@ -7,5 +7,5 @@ use Rattle.ax_machine.specs.Entries.{Key}
 use Rattle.ax_snapshot.specs.declared.snapshot.KeySnap.{KeySnap}
 
 -- what is held of a key, with the times of its timers
-abbrev pub snap_of : List Timer → (Key × List Cell) → KeySnap
-snap_of timers e = record { key = e.0; cells = e.1; timers = times_of timers e.0 }
+abbrev pub shown_snap : List Timer → (Key × List Cell) → KeySnap
+shown_snap timers e = record { key = e.0; cells = e.1; timers = times_of timers e.0 }

@@ -9,7 +9,7 @@ ghost use Rattle.ax_machine.specs.Sync.{block_of};
 ghost use Rattle.ax_lang.specs.Shown.{shown_program, shown_kinds};
 ghost use Rattle.ax_base.specs.Outside.{AppendsSome, OwnCounts};
 ghost use Rattle.ax_plain.specs.Plain.{shown_plain, ThreadFits};
-ghost use Rattle.ax_plain.specs.Snaps.{snap_of};
+ghost use Rattle.ax_plain.specs.Snaps.{shown_snap};
 
 use crate::plain::{PlainThread, States};
 use ax_base::{Bytes, Duplicate, NoMemory, Sink, SinkFault, write_all};
@@ -27,7 +27,7 @@ fn snap_key(
     cells: &KeyCells,
     timers: &Timers,
 ) -> Result<KeySnap, NoMemory>
-    ensures { IfOk result (λ snap. snap ≡ snap_of timers.now (key.now, cells.now)) }
+    ensures { IfOk result (λ snap. snap ≡ shown_snap timers.now (key.now, cells.now)) }
 {
     Ok(KeySnap {
         key: key.copy(alloc)?,
@@ -38,7 +38,7 @@ fn snap_key(
 
 // What each key has.
 fn snap_keys(alloc: Global, states: &States, timers: &Timers) -> Result<KeySnaps, NoMemory>
-    ensures snaps { IfOk result (λ snaps. snaps ≡ map (snap_of timers.now) states.now.entries) }
+    ensures snaps { IfOk result (λ snaps. snaps ≡ map (shown_snap timers.now) states.now.entries) }
     ensures found { OnOk result (All (λ e. get key_cmp states.now e.0 ≡ Some e.1) states.now.entries) }
 {
     let mut snaps = KeySnaps::new(alloc);

@@ -6,13 +6,14 @@ ghost use Rattle.ax_time.specs.Timers.{times_of};
 ghost use Rattle.ax_machine.specs.Entries.{Watermark, text_of};
 ghost use Rattle.ax_machine.specs.Sync.{all_fired, at_watermark, fire, silent, watermark_step, writes};
 ghost use Rattle.ax_lang.specs.Shown.{shown_program, shown_kinds};
-ghost use Rattle.ax_plain.specs.Agenda.{due};
+ghost use Rattle.ax_plain.specs.Agenda.{shown_due};
 ghost use Rattle.ax_base.specs.Outside.{AppendsSome, OwnCounts};
 ghost use Rattle.ax_plain.specs.Plain.{shown_plain, ThreadFits};
 
 use crate::agenda::{Agenda, Due};
 use crate::plain::{PlainThread, run_facts};
 use ax_base::{Sink, SinkFault, write_all};
+use ax_future::Handler;
 use ax_lang::Program;
 
 impl PlainThread {
@@ -110,17 +111,17 @@ impl PlainThread {
         requires first { least_time (times_of self.old.timers timer.now.key) ≡ Some timer.now.time }
         ensures fits { ThreadFits (shown_kinds program.now) self.new }
         ensures steps { OnOk result (shown_plain (shown_kinds program.now) self.new
-            ≡ silent (fire (shown_program program.now) (due timer.now) (shown_plain (shown_kinds program.now) self.old))) }
+            ≡ silent (fire (shown_program program.now) (shown_due timer.now) (shown_plain (shown_kinds program.now) self.old))) }
         ensures lines { OnOk result (Appends (K.holds out.old) (K.holds out.new)
-            (text_of (fire (shown_program program.now) (due timer.now) (shown_plain (shown_kinds program.now) self.old)).entries)) }
+            (text_of (fire (shown_program program.now) (shown_due timer.now) (shown_plain (shown_kinds program.now) self.old)).entries)) }
         ensures part { OnErr result (AppendsSome (K.holds out.old) (K.holds out.new)
-            (text_of (fire (shown_program program.now) (due timer.now) (shown_plain (shown_kinds program.now) self.old)).entries)) }
+            (text_of (fire (shown_program program.now) (shown_due timer.now) (shown_plain (shown_kinds program.now) self.old)).entries)) }
         ensures counts { OwnCounts (K.counts out.old) (K.counts out.new) result }
         ensures base { K.base out.new ≡ K.base out.old }
     {
         self.timers.take_least(&timer.key);
         let facts = run_facts(&timer.time, &self.wm, &[]);
-        self.run_held(program, program.timer_first(), &timer.key, &facts, out)?;
+        self.run_held(program, Handler::Timer, &timer.key, &facts, out)?;
         Ok(())
     }
 }

@@ -21,7 +21,7 @@ use Rattle.ax_keys.specs.Keys.{key_cmp}
 use Rattle.ax_time.specs.declared.held.Held.{Held}
 use Rattle.ax_time.specs.declared.kept.Kept.{Kept}
 use Rattle.ax_time.specs.Timers.{times_of}
-use Rattle.ax_time.specs.Held.{Due, due_order, times_or, kept_times, number_or, names, is_named, has_at, timers_in, Agree}
+use Rattle.ax_time.specs.Held.{Due, due_order, times_or, kept_times, number_or, names, is_named, has_at, shown_timers, Agree}
 use Rattle.ax_time.proofs.KeptLemmas.{times_seen}
 
 -- a key that is there already
@@ -89,9 +89,9 @@ name_of q (Some k) h = ap Some (sym (tells_apart exact_bytes q k h))
 
 pub due_seen : (a : Kept) → Agree a → (w : ℤ) (found : BTreeSet (List ℕ)) (ks : List (List ℕ)) → ks ≡ found.keys
     → ((q : List ℕ) → contains key_cmp found q ≡ list_any (λ d. names a.named.items q d.1) (keys_between due_order Unbounded (Excluded (w, length a.named.items)) a.by_time))
-    → (q : List ℕ) → Contains ks q ↔ HasDue w (times_of (timers_in a) q)
+    → (q : List ℕ) → Contains ks q ↔ HasDue w (times_of (shown_timers a) q)
 due_seen a h w found ks same all q = (to, from) where
-  to : Contains ks q → HasDue w (times_of (timers_in a) q)
+  to : Contains ks q → HasDue w (times_of (shown_timers a) q)
   to c =
       let one = any_passes (λ x y. is_at (due_order x) y) (range_contains due_order Unbounded (Excluded (w, length a.named.items))) (λ d. names a.named.items q d.1) is_itself a.by_time.keys
       (sym (all q) ∙ list_any-from_Contains (eq_by_cmp_equiv nat_list_cmp_total) q found.keys (subst (λ l. Contains l q) same c)) in
@@ -108,5 +108,5 @@ due_seen a h w found ks same all q = (to, from) where
       (all q ∙ passes_any (λ x y. is_at (due_order x) y) (range_contains due_order Unbounded (Excluded (w, length a.named.items))) (λ d. names a.named.items q d.1)
       (tells_apart (exact_pairs int_cmp nat_cmp exact_signed exact_unsigned)) (t, held.number) (within_due w t (length a.named.items) held.number le (slice_get_within a.named.items held.number q place)) mine a.by_time.keys there))
 
-  from : HasDue w (times_of (timers_in a) q) → Contains ks q
+  from : HasDue w (times_of (shown_timers a) q) → Contains ks q
   from d = from_held d.0 d.2 (get key_cmp a.by_key q) refl (list_any-from_Contains (eq_by_cmp_equiv int_cmp_total) d.0 (kept_times a.by_key q) (subst (λ ts. Contains ts d.0) (sym (times_seen a h q)) d.1))

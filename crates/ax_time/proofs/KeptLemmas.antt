@@ -28,7 +28,7 @@ use Rattle.ax_time.specs.declared.kept.Kept.{Kept}
 use Rattle.ax_text.specs.Times.{insert_time, remove_time, least_time, later_times}
 use Rattle.ax_keys.specs.Keys.{key_cmp}
 use Rattle.ax_time.specs.Timers.{times_of, PutsTimes, listed_cmp}
-use Rattle.ax_time.specs.Held.{ByKey, Due, due_order, Makes, MakesTime, times_or, kept_times, number_or, Rises, has_at, timers_at, listed, timers_in, Agree}
+use Rattle.ax_time.specs.Held.{ByKey, Due, due_order, Makes, MakesTime, times_or, kept_times, number_or, Rises, has_at, timers_at, listed, shown_timers, Agree}
 use Rattle.ax_time.proofs.SetLemmas.{removed_filter, inserted_again}
 
 pub if_ok : {T E : Type 0} {P Q : T → Type 0} (r : Result T E) → ((x : T) → P x → Q x) → IfOk r P → IfOk r Q
@@ -127,20 +127,20 @@ each_rises (e ∷ es) s f = (here, each_rises es (sorted_tail key_cmp e.0 (keys_
   there k true h = subst Rises (sym (lookup-none _ es (none_past_head (eq_by_cmp_equiv nat_list_cmp_total) k e es (IsDistinct-from_sorted key_cmp (keys_of (e ∷ es)) s) h))) tt
   there k false h = subst Rises (ap (λ c. cond c (Some e.1) (lookup (is_at (key_cmp k)) es)) h) (f k)
 
-pub listed_rises : (a : Kept) → Agree a → IsStrictlySortedBy listed_cmp (timers_in a)
+pub listed_rises : (a : Kept) → Agree a → IsStrictlySortedBy listed_cmp (shown_timers a)
 listed_rises a k = rises_listed a.by_key.entries k.ordered (each_rises a.by_key.entries k.ordered k.rising)
 
 -- ---- what a change of one key's times does
 
 -- the times that are seen are those that are kept, and they rise
-pub times_seen : (a : Kept) → Agree a → (k : List ℕ) → kept_times a.by_key k ≡ times_of (timers_in a) k
+pub times_seen : (a : Kept) → Agree a → (k : List ℕ) → kept_times a.by_key k ≡ times_of (shown_timers a) k
 times_seen a h k = sym (times_kept a.by_key h.ordered k)
 
 rises_or : (o : Option Held) → Rises o → IsStrictlySortedBy int_cmp (times_or o)
 rises_or None r = sorted_nil int_cmp
 rises_or (Some held) r = r
 
-pub rising_seen : (a : Kept) → Agree a → (k : List ℕ) → IsStrictlySortedBy int_cmp (times_of (timers_in a) k)
+pub rising_seen : (a : Kept) → Agree a → (k : List ℕ) → IsStrictlySortedBy int_cmp (times_of (shown_timers a) k)
 rising_seen a h k = subst (IsStrictlySortedBy int_cmp) (times_seen a h k) (rises_or (get key_cmp a.by_key k) (h.rising k))
 
 -- the same times again
@@ -151,7 +151,7 @@ times_same v k xs e q = go (bytes_eq k q) refl where
   go false h = refl
 
 -- the first of some times and the later ones
-pub no_times : (a : Kept) → Agree a → (k : List ℕ) → get key_cmp a.by_key k ≡ None → times_of (timers_in a) k ≡ []
+pub no_times : (a : Kept) → Agree a → (k : List ℕ) → get key_cmp a.by_key k ≡ None → times_of (shown_timers a) k ≡ []
 no_times a h k none = sym (times_seen a h k) ∙ ap times_or none
 
 or_cond : (b : Bool) (new : Held) (o : Option Held) → times_or (cond b (Some new) o) ≡ cond b new.times.keys (times_or o)
@@ -163,11 +163,11 @@ abbrev pub Holds : ByKey → ByKey → List ℕ → Held → Type 0
 Holds m n k new = (q : List ℕ) → get key_cmp n q ≡ cond (is_at (key_cmp k) q) (Some new) (get key_cmp m q)
 
 pub put_seen : (a : Kept) → Agree a → (n : ByKey) → tree.IsOrdered key_cmp n → (k : List ℕ) (old new : Held) → Some old ≡ get key_cmp a.by_key k → Holds a.by_key n k new
-    → (f : List ℤ → List ℤ) → (new.times.keys ≡ f old.times.keys) → PutsTimes (timers_in a) (listed n.entries) k (f (times_of (timers_in a) k))
+    → (f : List ℤ → List ℤ) → (new.times.keys ≡ f old.times.keys) → PutsTimes (shown_timers a) (listed n.entries) k (f (times_of (shown_timers a) k))
 put_seen a h n s k old new was holds f e q =
     times_kept n s q ∙ ap times_or (holds q) ∙ or_cond (is_at (key_cmp k) q) new (get key_cmp a.by_key q) ∙ go (is_at (key_cmp k) q) (bytes_eq k q) (same_key k q)
   where
-    go : (b c : Bool) → b ≡ c → cond b new.times.keys (kept_times a.by_key q) ≡ cond c (f (times_of (timers_in a) k)) (times_of (timers_in a) q)
+    go : (b c : Bool) → b ≡ c → cond b new.times.keys (kept_times a.by_key q) ≡ cond c (f (times_of (shown_timers a) k)) (times_of (shown_timers a) q)
     go true true g = e ∙ ap f (ap times_or was ∙ times_seen a h k)
     go true false g = absurd (true≢false g)
     go false true g = absurd (true≢false (sym g))

@@ -69,8 +69,8 @@ abbrev pub listed : List (List ℕ × Held) → List Timer
 listed [] = []
 listed (e ∷ es) = timers_at e.0 e.1.times.keys ++ listed es
 
-abbrev pub timers_in : Kept → List Timer
-timers_in kept = listed kept.by_key.entries
+abbrev pub shown_timers : Kept → List Timer
+shown_timers kept = listed kept.by_key.entries
 
 -- keys and numbers belong together, and both orders have the same timers
 pub record Agree (kept : Kept) : Type 0 where

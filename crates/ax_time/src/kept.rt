@@ -7,7 +7,7 @@ ghost use Rattle.std.specs.Ordering.{int_cmp};
 ghost use Rattle.ax_text.specs.Times.{insert_time, remove_time, least_time, later_times};
 ghost use Rattle.ax_keys.specs.Keys.{key_cmp};
 ghost use Rattle.ax_time.specs.Timers.{PutsTimes, times_of};
-ghost use Rattle.ax_time.specs.Held.{Agree, timers_in};
+ghost use Rattle.ax_time.specs.Held.{Agree, shown_timers};
 
 use crate::held::{ByTime, Held, cut, cut_first, put};
 use ax_base::{Duplicate, NoMemory};
@@ -28,8 +28,8 @@ impl Kept {
     pub fn set(&mut self, alloc: Global, key: &Key, time: &i64) -> Result<(), NoMemory>
         requires { Agree self.old }
         ensures kept { Agree self.new }
-        ensures ok { OnOk result (PutsTimes (timers_in self.old) (timers_in self.new) key.now (insert_time time.now (times_of (timers_in self.old) key.now))) }
-        ensures err { OnErr result (timers_in self.new ≡ timers_in self.old) }
+        ensures ok { OnOk result (PutsTimes (shown_timers self.old) (shown_timers self.new) key.now (insert_time time.now (times_of (shown_timers self.old) key.now))) }
+        ensures err { OnErr result (shown_timers self.new ≡ shown_timers self.old) }
     {
         if self.set_held(key, time)? {
             return Ok(());
@@ -44,10 +44,10 @@ impl Kept {
         requires { Agree self.old }
         ensures kept { Agree self.new }
         ensures absent { IfOk result (λ held. held ≡ false → get key_cmp self.new.by_key key.now ≡ None) }
-        ensures same { IfOk result (λ held. held ≡ false → timers_in self.new ≡ timers_in self.old) }
+        ensures same { IfOk result (λ held. held ≡ false → shown_timers self.new ≡ shown_timers self.old) }
         ensures present { IfOk result (λ held. IsSome (get key_cmp self.old.by_key key.now) → held ≡ true) }
-        ensures set { IfOk result (λ held. held ≡ true → PutsTimes (timers_in self.old) (timers_in self.new) key.now (insert_time time.now (times_of (timers_in self.old) key.now))) }
-        ensures err { OnErr result (timers_in self.new ≡ timers_in self.old) }
+        ensures set { IfOk result (λ held. held ≡ true → PutsTimes (shown_timers self.old) (shown_timers self.new) key.now (insert_time time.now (times_of (shown_timers self.old) key.now))) }
+        ensures err { OnErr result (shown_timers self.new ≡ shown_timers self.old) }
     {
         let Some(held) = self.by_key.get_mut(key) else {
             return Ok(false);
@@ -61,7 +61,7 @@ impl Kept {
         requires kept { Agree self.old }
         requires absent { get key_cmp self.old.by_key key.now ≡ None }
         ensures kept { Agree self.new }
-        ensures same { timers_in self.new ≡ timers_in self.old }
+        ensures same { shown_timers self.new ≡ shown_timers self.old }
         ensures held { OnOk result (IsSome (get key_cmp self.new.by_key key.now)) }
     {
         let number = self.named.len();
@@ -84,7 +84,7 @@ impl Kept {
     pub fn unset(&mut self, key: &Key, time: &i64)
         requires { Agree self.old }
         ensures kept { Agree self.new }
-        ensures times { PutsTimes (timers_in self.old) (timers_in self.new) key.now (remove_time time.now (times_of (timers_in self.old) key.now)) }
+        ensures times { PutsTimes (shown_timers self.old) (shown_timers self.new) key.now (remove_time time.now (times_of (shown_timers self.old) key.now)) }
     {
         if let Some(held) = self.by_key.get_mut(key) {
             cut(&mut self.by_time, held, time);
@@ -95,8 +95,8 @@ impl Kept {
     pub fn take_least(&mut self, key: &Key) -> Option<i64>
         requires { Agree self.old }
         ensures kept { Agree self.new }
-        ensures least { result ≡ least_time (times_of (timers_in self.old) key.now) }
-        ensures times { PutsTimes (timers_in self.old) (timers_in self.new) key.now (later_times (times_of (timers_in self.old) key.now)) }
+        ensures least { result ≡ least_time (times_of (shown_timers self.old) key.now) }
+        ensures times { PutsTimes (shown_timers self.old) (shown_timers self.new) key.now (later_times (times_of (shown_timers self.old) key.now)) }
     {
         let Some(held) = self.by_key.get_mut(key) else {
             return None;
@@ -107,8 +107,8 @@ impl Kept {
     // The least time of a key's timers.
     pub fn least_of(&self, key: &Key) -> Option<i64>
         requires { Agree self.now }
-        ensures least { result ≡ least_time (times_of (timers_in self.now) key.now) }
-        ensures rising { IsStrictlySortedBy int_cmp (times_of (timers_in self.now) key.now) }
+        ensures least { result ≡ least_time (times_of (shown_timers self.now) key.now) }
+        ensures rising { IsStrictlySortedBy int_cmp (times_of (shown_timers self.now) key.now) }
     {
         match self.by_key.get(key) {
             Some(held) => first_time(&held.times),

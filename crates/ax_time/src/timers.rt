@@ -34,9 +34,9 @@ impl Model for Timers {
 
     ghost Value = { List Timer };
 
-    ghost use Rattle.ax_time.specs.Held.{Agree, timers_in};
+    ghost use Rattle.ax_time.specs.Held.{Agree, shown_timers};
 
-    ghost view = { λ t. timers_in t.kept };
+    ghost view = { λ t. shown_timers t.kept };
 
     ghost invariant = { λ t. Agree t.kept };
 }

@@ -1,7 +1,7 @@
 use Rattle.std.proofs.Common.{◌≡◌, ◌∙◌, IsSome, [], ap, refl, sym, subst}
 use Rattle.ax_text.specs.Times.{least_time, later_times}
 use Rattle.ax_time.specs.Timers.{times_of}
-use Rattle.ax_time.specs.Held.{times_or, timers_in}
+use Rattle.ax_time.specs.Held.{times_or, shown_timers}
 use Rattle.ax_time.proofs.KeptLemmas.{agree_took, put_seen, times_same, times_seen, no_times}
 use Rattle.ax_time.proofs.kept.Kept.take_least.Goals as goal
 
@@ -10,8 +10,8 @@ returns-in_default-clause-least c = sym (ap least_time (no_times c.args.self.now
 
 pub returns-in_default-clause-times : goal.returns-in_default-clause-times
 returns-in_default-clause-times c =
-    let none : times_of (timers_in c.args.self.now) c.args.key.now ≡ [] = no_times c.args.self.now c.requires c.args.key.now (sym c.in_default.ensures.value) in
-    rw c.get_mut.follows.holds-at-none (times_same (timers_in c.args.self.now) c.args.key.now _ (ap later_times none ∙ sym none))
+    let none : times_of (shown_timers c.args.self.now) c.args.key.now ≡ [] = no_times c.args.self.now c.requires c.args.key.now (sym c.in_default.ensures.value) in
+    rw c.get_mut.follows.holds-at-none (times_same (shown_timers c.args.self.now) c.args.key.now _ (ap later_times none ∙ sym none))
 
 pub returns-clause-kept : goal.returns-clause-kept
 returns-clause-kept c =

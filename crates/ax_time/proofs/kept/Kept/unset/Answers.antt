@@ -1,7 +1,7 @@
 use Rattle.std.proofs.Common.{◌≡◌, ◌∙◌, false, IsSome, [], List, ℤ, ap, refl, sym, subst}
 use Rattle.ax_text.specs.Times.{remove_time}
 use Rattle.ax_time.specs.Timers.{times_of}
-use Rattle.ax_time.specs.Held.{timers_in}
+use Rattle.ax_time.specs.Held.{shown_timers}
 use Rattle.ax_time.proofs.KeptLemmas.{same_there, rises_there, agree_made, put_seen, removed_time, times_same, no_times}
 use Rattle.ax_time.proofs.kept.Kept.unset.Goals as goal
 
@@ -20,8 +20,8 @@ returns-in-Some-clause-times c =
 
 pub returns-in_default-clause-times : goal.returns-in_default-clause-times
 returns-in_default-clause-times c =
-    let none : times_of (timers_in c.args.self.now) c.args.key.now ≡ [] = no_times c.args.self.now c.requires c.args.key.now (sym c.in_default.ensures.value) in
-    rw c.get_mut.follows.holds-at-none (times_same (timers_in c.args.self.now) c.args.key.now _ (ap (remove_time c.args.time.now) none ∙ sym none))
+    let none : times_of (shown_timers c.args.self.now) c.args.key.now ≡ [] = no_times c.args.self.now c.requires c.args.key.now (sym c.in_default.ensures.value) in
+    rw c.get_mut.follows.holds-at-none (times_same (shown_timers c.args.self.now) c.args.key.now _ (ap (remove_time c.args.time.now) none ∙ sym none))
 
 pub cut-requires : goal.cut-requires
 cut-requires c = record { same = same_there c.args.self.now c.requires c.args.key.now c.in-Some.held.now c.in-Some.ensures.value c.args.time.now }
