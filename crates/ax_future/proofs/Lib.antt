@@ -4,5 +4,6 @@ pub mod WayLemmas
 pub mod MoveLemmas
 pub mod BeginLemmas
 pub mod AnswerLemmas
+pub mod LeastLemmas
 pub mod MachineLemmas
 pub mod LifeLemmas

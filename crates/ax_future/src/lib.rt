@@ -16,6 +16,7 @@ mod callback;
 mod fresh;
 mod going;
 pub mod laws;
+mod least;
 mod machine;
 mod moves;
 mod node;

@@ -7,6 +7,7 @@ ghost use Rattle.ax_text.specs.Underway.{TakesLeast, SlotsRise};
 ghost use Rattle.ax_text.specs.Controls.{Rest, Done, slots, waiting, replaced, without, is_done, begin, give};
 ghost use Rattle.ax_lang.specs.declared.program.Program.{Program as AnyProgram};
 ghost use Rattle.ax_lang.specs.Shown.{shown_program};
+ghost use Rattle.ax_future.specs.Least.{IsLeastWaiting};
 ghost use Rattle.ax_future.specs.Nodes.{control_in};
 ghost use Rattle.ax_future.specs.Talks.{facts_in, asks_in};
 
@@ -14,10 +15,11 @@ use crate::answers::{add_others, give_in, waits_at};
 use crate::begin::{begin, only};
 use crate::callback::{Facts, Turn};
 use crate::going::Going;
+use crate::least::least_of;
 use crate::node::Node;
 use ax_base::{ListOf, NoMemory};
 use ax_lang::Program;
-use ax_text::{Answer, Handler};
+use ax_text::{Answer, Handler, Request};
 use std::alloc::Global;
 use std::mem;
 
@@ -146,5 +148,13 @@ impl Machine {
         ensures { (p : AnyProgram) → result ≡ has slot (slots (control_of p self.now)) }
     {
         waits_at(&self.node, slot)
+    }
+
+    /// The request that waits at the least slot, with the slot. `None` exactly where it is done.
+    #[tactic(auto, using(crate::proofs::LeastLemmas::sound_least))]
+    pub fn least_waiting(&self) -> Option<(u8, &Request)>
+        ensures { (p : AnyProgram) → IsSound p self.now → IsLeastWaiting (control_of p self.now) result }
+    {
+        least_of(&self.node)
     }
 }

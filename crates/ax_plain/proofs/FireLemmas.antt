@@ -7,11 +7,11 @@ use Rattle.std.specs.Str.{bytes_eq}
 use Rattle.std.specs.BTreeMap.{get, is_at, keys}
 use mathlib.Core.Path.{fun_ext}
 use Rattle.ax_base.proofs.OutsideLemmas.{Appends-none, Appends-more}
+use Rattle.ax_text.specs.declared.vocabulary.Handler.TheVariants as handler
 use Rattle.ax_text.specs.declared.vocabulary.Kind.{Kind}
 use Rattle.ax_text.specs.Cells.{Cell, Cells}
 use Rattle.ax_text.specs.Exprs.{Facts}
 use Rattle.ax_text.specs.Programs.{Program, text_or_stop}
-use Rattle.ax_text.specs.Texts.{Text}
 use Rattle.ax_text.specs.Times.{least_time, later_times}
 use Rattle.ax_text.specs.Run.{World, run, begun, state_after}
 use Rattle.ax_text.specs.Jobs.{firing_job, job_run}
@@ -26,7 +26,7 @@ use Rattle.ax_machine.specs.Sync.{Map, Plain, does, without_least, fire, fire_al
 use Rattle.ax_machine.proofs.FiringLemmas.{total, key_is, total_most, fire_all_next, fire_all_end}
 use Rattle.ax_machine.proofs.StepLemmas.{fire_all_writes, text_of-append}
 use Rattle.ax_lang.specs.declared.program.Program.{Program as CodeProgram}
-use Rattle.ax_lang.specs.Shown.{shown_program, text_from}
+use Rattle.ax_lang.specs.Shown.{shown_program}
 use Rattle.ax_plain.specs.declared.agenda.Due.{Due}
 use Rattle.ax_plain.specs.declared.handler.RunFacts.{RunFacts}
 use Rattle.ax_plain.specs.Agenda.{shown_due, timer_of, Lists, without, NoneFires, IsFirstDue, Puts}
@@ -63,12 +63,12 @@ taken_fits kinds m t u k f p = record {
     by_key q none false e = puts_elsewhere t u k q (later_times (times_of t k)) p e ∙ none
 
 -- then the run of its handler is a firing
-pub fired_is : (p : CodeProgram) (place : ℕ) (facts : RunFacts) (kinds : List Kind) (m : Held) (t u : List Timer) (wm : ℤ) (d : machine.Due)
+pub fired_is : (p : CodeProgram) (facts : RunFacts) (kinds : List Kind) (m : Held) (t u : List Timer) (wm : ℤ) (d : machine.Due)
     → PutsTimes t u d.key (later_times (times_of t d.key))
-    → shown_run_facts facts ≡ record { time = d.time; wm = wm; values = [] } → text_from p place ≡ text_or_stop (shown_program p).timer
-    → run_at p place facts d.key (plain wm (keys m) (map_of kinds m u)) ≡ fire (shown_program p) d (plain wm (keys m) (map_of kinds m t))
-fired_is p place facts kinds m t u wm d h ef et =
-    ap₂ (λ (f : Facts) (x : Text). does d.key (map_of kinds m u d.key) (run f x (begun cells)) (plain wm (keys m) (map_of kinds m u))) ef et
+    → shown_run_facts facts ≡ record { time = d.time; wm = wm; values = [] }
+    → run_at p handler.Timer facts d.key (plain wm (keys m) (map_of kinds m u)) ≡ fire (shown_program p) d (plain wm (keys m) (map_of kinds m t))
+fired_is p facts kinds m t u wm d h ef =
+    ap (λ (f : Facts). does d.key (map_of kinds m u d.key) (run f (text_or_stop (shown_program p).timer) (begun cells)) (plain wm (keys m) (map_of kinds m u))) ef
     ∙ ap (λ ts. does d.key (key_state cells ts) ran (plain wm (keys m) (map_of kinds m u))) (puts_at t u d.key later h)
     ∙ ap (λ (x : Map). record { wm = wm; keys = keys m; map = x; entries = says d.key ran.talk.lines }) (fun_ext (λ q. elsewhere q (bytes_eq d.key q) refl))
   where

@@ -12,12 +12,12 @@ use Rattle.std.specs.Map.{keys_of}
 use Rattle.std.specs.BTreeMap.{IsOrdered, get, insert_entry, is_at, keys}
 use Rattle.std.specs.BTreeSet.{insert_key}
 use mathlib.Core.Path.{fun_ext}
+use Rattle.ax_text.specs.declared.vocabulary.Handler.TheVariants as handler
 use Rattle.ax_text.specs.declared.vocabulary.Kind.{Kind}
 use Rattle.ax_text.specs.Cells.{Cell, Cells}
 use Rattle.ax_text.specs.Exprs.{Facts}
 use Rattle.ax_text.specs.KeyStates.{KeyState}
 use Rattle.ax_text.specs.Programs.{untouched}
-use Rattle.ax_text.specs.Texts.{Text}
 use Rattle.ax_text.specs.Run.{World, run, begun, state_after, times_after}
 use Rattle.ax_keys.specs.Keys.{key_cmp}
 use Rattle.ax_state.specs.KeyCells.{shown_cells, cell_kinds}
@@ -29,7 +29,7 @@ use Rattle.ax_machine.specs.Entries.{Key, text_of}
 use Rattle.ax_machine.specs.Sync.{Map, Plain, put_at, does, knows, row_step, silent}
 use Rattle.ax_machine.proofs.FiringLemmas.{key_is}
 use Rattle.ax_lang.specs.declared.program.Program.{Program}
-use Rattle.ax_lang.specs.Shown.{shown_program, text_from}
+use Rattle.ax_lang.specs.Shown.{shown_program}
 use Rattle.ax_plain.specs.declared.handler.RunFacts.{RunFacts}
 use Rattle.ax_plain.specs.Handler.{shown_run_facts, LeavesOthers}
 use Rattle.ax_base.specs.Outside.{AppendsSome}
@@ -115,18 +115,18 @@ knows_again : (k : Key) (s : Plain) → insert_key key_cmp s.keys k ≡ s.keys �
 knows_again k s e = ap (λ (ks : List Key). record { wm = s.wm; keys = ks; map = s.map; entries = s.entries }) (sym e)
 
 -- a row's run is the step of the row
-pub row_is : (p : Program) (place : ℕ) (facts : RunFacts) (k : Key) (time : ℤ) (values : List ℤ) (s s' : Plain)
-    → shown_run_facts facts ≡ record { time = time; wm = s.wm; values = values } → text_from p place ≡ (shown_program p).row → s' ≡ knows k s
-    → run_at p place facts k s' ≡ row_step (shown_program p) k time values s
-row_is p place facts k time values s s' ef et es =
-    ap (run_at p place facts k) es
-    ∙ ap₂ (λ (f : Facts) (x : Text). does k (s.map k) (run f x (begun (s.map k).cells)) (knows k s)) ef et
+pub row_is : (p : Program) (facts : RunFacts) (k : Key) (time : ℤ) (values : List ℤ) (s s' : Plain)
+    → shown_run_facts facts ≡ record { time = time; wm = s.wm; values = values } → s' ≡ knows k s
+    → run_at p handler.Row facts k s' ≡ row_step (shown_program p) k time values s
+row_is p facts k time values s s' ef es =
+    ap (run_at p handler.Row facts k) es
+    ∙ ap (λ (f : Facts). does k (s.map k) (run f (shown_program p).row (begun (s.map k).cells)) (knows k s)) ef
 
 -- of a key that is known
-pub row_known : (p : Program) (place : ℕ) (facts : RunFacts) (k : Key) (time : ℤ) (values : List ℤ) (s : Plain)
-    → shown_run_facts facts ≡ record { time = time; wm = s.wm; values = values } → text_from p place ≡ (shown_program p).row → insert_key key_cmp s.keys k ≡ s.keys
-    → run_at p place facts k s ≡ row_step (shown_program p) k time values s
-row_known p place facts k time values s ef et known = row_is p place facts k time values s s ef et (knows_again k s known)
+pub row_known : (p : Program) (facts : RunFacts) (k : Key) (time : ℤ) (values : List ℤ) (s : Plain)
+    → shown_run_facts facts ≡ record { time = time; wm = s.wm; values = values } → insert_key key_cmp s.keys k ≡ s.keys
+    → run_at p handler.Row facts k s ≡ row_step (shown_program p) k time values s
+row_known p facts k time values s ef known = row_is p facts k time values s s ef (knows_again k s known)
 
 -- what was written, where nothing was written before it
 pub wrote_all : (h h' h'' : Option (List ℕ)) (s s' : Plain) → h' ≡ h → s ≡ s' → Appends h' h'' (text_of s.entries) → Appends h h'' (text_of s'.entries)

@@ -2,6 +2,7 @@
 use Rattle.std.specs.Prelude.{◌≡◌, ℕ, false, List, [], Option, Some, None}
 use Rattle.std.specs.Str.{bytes_eq}
 use Rattle.std.specs.BTreeMap.{BTreeMap, get, keys}
+use Rattle.ax_text.specs.declared.vocabulary.Handler.{Handler}
 use Rattle.ax_text.specs.declared.vocabulary.Kind.{Kind}
 use Rattle.ax_text.specs.Cells.{Cell, Cells}
 use Rattle.ax_text.specs.Programs.{untouched}
@@ -45,9 +46,9 @@ pub record Fits (kinds : List Kind) (held : Held) (timers : List Timer) : Type 0
 abbrev pub ThreadFits : List Kind → PlainThread → Type 0
 ThreadFits kinds thread = Fits kinds thread.states thread.timers
 
--- behind the run of a key's handler from a place on
-abbrev pub run_at : Program → ℕ → RunFacts → Key → Plain → Plain
-run_at p place facts key s = does key (s.map key) (run_from p place facts (s.map key).cells) s
+-- behind the run of a key's handler
+abbrev pub run_at : Program → Handler → RunFacts → Key → Plain → Plain
+run_at p handler facts key s = does key (s.map key) (run_from p handler facts (s.map key).cells) s
 
 -- each other key has the states and times that it had
 abbrev pub LeavesKeys : Key → Map → Map → Type 0

@@ -13,6 +13,7 @@ ghost use Rattle.ax_plain.specs.Plain.{shown_plain, ThreadFits};
 use crate::agenda::{Agenda, Due};
 use crate::plain::{PlainThread, run_facts};
 use ax_base::{Sink, SinkFault, write_all};
+use ax_future::Handler;
 use ax_lang::Program;
 
 impl PlainThread {
@@ -120,7 +121,7 @@ impl PlainThread {
     {
         self.timers.take_least(&timer.key);
         let facts = run_facts(&timer.time, &self.wm, &[]);
-        self.run_held(program, program.timer_first(), &timer.key, &facts, out)?;
+        self.run_held(program, Handler::Timer, &timer.key, &facts, out)?;
         Ok(())
     }
 }

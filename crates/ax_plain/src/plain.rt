@@ -14,6 +14,7 @@ ghost use Rattle.ax_base.specs.Outside.{AppendsSome, OwnCounts};
 
 use crate::handler::{Room, RunFacts, run_handler};
 use ax_base::{Duplicate, NoMemory, Sink, SinkFault};
+use ax_future::Handler;
 use ax_input::Event;
 use ax_keys::Key;
 use ax_lang::Program;
@@ -48,7 +49,7 @@ pub(crate) fn run_facts<'a>(time: &i64, wm: &i64, values: &'a [i64]) -> RunFacts
 }
 
 impl PlainThread {
-    /// No key had a row yet. The room for the program's local names is taken here.
+    /// No key had a row yet.
     pub fn new(alloc: Global, program: &Program) -> Result<PlainThread, NoMemory>
         ensures fits { IfOk result (λ thread. ThreadFits (shown_kinds program.now) thread) }
         ensures start { IfOk result (λ thread. shown_plain (shown_kinds program.now) thread ≡ plain_start (shown_program program.now)) }
@@ -58,7 +59,7 @@ impl PlainThread {
             wm: first_watermark(),
             states: States::new(alloc),
             timers: Timers::new(alloc),
-            room: Room::new(alloc, program.locals())?,
+            room: Room::new(alloc),
         })
     }
 
@@ -125,13 +126,13 @@ impl PlainThread {
         ensures base { K.base out.new ≡ K.base out.old }
     {
         let facts = run_facts(time, &self.wm, values);
-        if self.run_held(program, program.first(), key, &facts, out)? {
+        if self.run_held(program, Handler::Row, key, &facts, out)? {
             return Ok(());
         }
         let Ok(()) = self.hold(program, key) else {
             return Err(SinkFault::NoMemory);
         };
-        self.run_held(program, program.first(), key, &facts, out)?;
+        self.run_held(program, Handler::Row, key, &facts, out)?;
         Ok(())
     }
 
@@ -152,12 +153,11 @@ impl PlainThread {
         }
     }
 
-    // Runs what stands from a place on, on what is held of a key. The answer is false exactly where nothing is held of it;
-    // then nothing has happened.
+    // Runs a handler on what is held of a key. The answer is false exactly where nothing is held of it; then nothing has happened.
     pub(crate) fn run_held<K: Sink>(
         &mut self,
         program: &Program,
-        place: usize,
+        handler: Handler,
         key: &Key,
         facts: &RunFacts<'_>,
         out: &mut K,
@@ -168,11 +168,11 @@ impl PlainThread {
         ensures held { IfOk result (λ held. held ≡ true → insert_key key_cmp (keys self.old.states) key.now ≡ keys self.old.states) }
         ensures present { IfOk result (λ held. IsSome (get key_cmp self.old.states key.now) → held ≡ true) }
         ensures steps { IfOk result (λ held. held ≡ true → shown_plain (shown_kinds program.now) self.new
-            ≡ silent (run_at program.now place facts.now key.now (shown_plain (shown_kinds program.now) self.old))) }
+            ≡ silent (run_at program.now handler facts.now key.now (shown_plain (shown_kinds program.now) self.old))) }
         ensures lines { IfOk result (λ held. held ≡ true → Appends (K.holds out.old) (K.holds out.new)
-            (text_of (run_at program.now place facts.now key.now (shown_plain (shown_kinds program.now) self.old)).entries)) }
+            (text_of (run_at program.now handler facts.now key.now (shown_plain (shown_kinds program.now) self.old)).entries)) }
         ensures part { OnErr result (AppendsSome (K.holds out.old) (K.holds out.new)
-            (text_of (run_at program.now place facts.now key.now (shown_plain (shown_kinds program.now) self.old)).entries)) }
+            (text_of (run_at program.now handler facts.now key.now (shown_plain (shown_kinds program.now) self.old)).entries)) }
         ensures others { LeavesKeys key.now (shown_plain (shown_kinds program.now) self.old).map (shown_plain (shown_kinds program.now) self.new).map }
         ensures counts { OwnCounts (K.counts out.old) (K.counts out.new) result }
         ensures base { K.base out.new ≡ K.base out.old }
@@ -183,7 +183,7 @@ impl PlainThread {
         run_handler(
             &mut self.room,
             program,
-            place,
+            handler,
             key,
             facts,
             cells,

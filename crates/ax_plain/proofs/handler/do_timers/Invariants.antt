@@ -1,0 +1,12 @@
+use Rattle.std.proofs.Common.{List, drop}
+use Rattle.ax_text.specs.Run.{times_after}
+use Rattle.ax_time.specs.declared.timer.Timer.{Timer}
+use Rattle.ax_time.specs.Timers.{times_of, PutsTimes}
+use Rattle.ax_plain.specs.Handler.{LeavesOthers}
+use Rattle.ax_plain.proofs.handler.do_timers.Given as goal
+
+abbrev pub invariant-op : goal.invariant-op
+invariant-op l = record {
+  rest : (u : List Timer) → PutsTimes l.timers u l.key (times_after (drop l.op-index l.ops) (times_of l.timers l.key)) → PutsTimes l.fn.timers u l.key (times_after l.ops (times_of l.fn.timers l.key));
+  others : LeavesOthers l.key l.fn.timers l.timers;
+}
