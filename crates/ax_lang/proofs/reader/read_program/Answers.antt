@@ -47,3 +47,9 @@ returns-then-not-is_done c =
     let over : length c.args.lines.now ≤ c.loop-line.line-index = omega arith in
     not_done c.args.lines.now c.loop-line.line-index c.args.end c.loop-line.tables (shown_handlers c.loop-line.handlers) over c.loop-line.invariant (sym c.is_done.ensures ∙ c.if-not-is_done.true)
     ∙ ap (Faulty c.args.end.line) (sym c.number-then-not-is_done.ensures)
+
+pub returns-in-Ok : goal.returns-in-Ok
+returns-in-Ok c =
+    let over : length c.args.lines.now ≤ c.loop-line.line-index = omega arith in
+    let said = done c.args.lines.now c.loop-line.line-index c.args.end c.loop-line.tables (shown_handlers c.loop-line.handlers) over c.loop-line.invariant (sym c.is_done.ensures ∙ c.if-not-is_done.false) in
+    subst (λ (r : Reading). IsProgram r c.in-Ok.program) (sym said) c.in-Ok.ensures
