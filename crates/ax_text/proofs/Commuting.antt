@@ -1,12 +1,9 @@
 -- The arms of an accepted text may run in either order.
-use Rattle.std.proofs.Common.{◌≡◌, ◌&&◌, sym}
-use Rattle.std.proofs.lemmas.Bool.{and_parts}
+use Rattle.std.proofs.Common.{sym}
 use Rattle.ax_text.specs.Exprs.{Facts}
 use Rattle.ax_text.specs.Texts.{Text, Both}
 use Rattle.ax_text.specs.Run.{World, run}
-use Rattle.ax_text.specs.Prints.{is_accepted}
 use Rattle.ax_text.specs.Underway.{ArmsCommute}
-use Rattle.ax_text.specs.Sound.{everything}
 use Rattle.ax_text.proofs.Keeps.{commute, keeps_run}
 use Rattle.ax_text.proofs.Accepting.{accepted_fits}
 

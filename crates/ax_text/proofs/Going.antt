@@ -1,5 +1,5 @@
 -- Whatever is served and given in whatever order, a handler comes to what its run comes to.
-use Rattle.std.proofs.Common.{◌≡◌, ℕ, List, [], ◌∷◌, true, false, nat_eq, refl, sym, ap, ◌∙◌, subst, arith, suc, ◌+◌, ◌-◌, ◌≤◌, ◌≢◌, Option, Some, None}
+use Rattle.std.proofs.Common.{◌≡◌, ℕ, List, [], ◌∷◌, true, false, nat_eq, refl, sym, ap, ◌∙◌, subst, arith, suc, ◌+◌, ◌-◌, ◌≤◌, Option, Some, None}
 use Rattle.std.proofs.lemmas.Bool.{both_ways, eqb-true}
 use Rattle.ax_text.specs.declared.vocabulary.Request.{Request}
 use Rattle.ax_text.specs.declared.vocabulary.Answer.{Answer}
@@ -9,15 +9,15 @@ use Rattle.ax_text.specs.Cells.{Cells, answer_of}
 use Rattle.ax_text.specs.Texts.{Text}
 use Rattle.ax_text.specs.Run.{World, run, begun}
 use Rattle.ax_text.specs.Prints.{has, is_accepted}
-use Rattle.ax_text.specs.Controls.{Rest, Control, Done, Wait, Arms, Turn, Answers, slots, begin, without, give, request_at, left, Going, Event, Serve, Give, started, serve_at, give_at, step, steps, comes_to}
+use Rattle.ax_text.specs.Controls.{Rest, Control, Turn, Answers, slots, begin, without, give, request_at, left, Going, Event, Serve, Give, started, serve_at, give_at, step, steps, comes_to}
 use Rattle.ax_text.specs.Futures.{going, ComesToRun, EndsAsRun}
-use Rattle.ax_text.proofs.Keeps.{by_cases, Agree, keeps_left}
-use Rattle.ax_text.proofs.Steps.{Blank, BlankBut, Goes, IsStep, IsGiven, after_talk, begin_ok, given, serve_ok, upd_at, upd_off, mem_one, mem_two, without_keeps}
+use Rattle.ax_text.proofs.Keeps.{by_cases, keeps_left}
+use Rattle.ax_text.proofs.Steps.{Blank, BlankBut, Goes, IsStep, IsGiven, after_talk, begin_ok, given, serve_ok, upd_at, upd_off, without_keeps}
 use Rattle.ax_text.proofs.Wakeful.{slot_waits, begin_wakes, give_wakes}
 use Rattle.ax_text.proofs.Moving.{give_moves}
 use Rattle.ax_text.proofs.Accepting.{accepted_fits}
 use Rattle.ax_text.specs.Sound.{everything}
-use Rattle.ax_text.specs.Underway.{IsUnderway, to_serve, ServesOne, GivesOn, ServesAt, GivesAt, StartsUnderway, StepsUnderway}
+use Rattle.ax_text.specs.Underway.{IsUnderway, ServesOne, GivesOn, ServesAt, GivesAt, StartsUnderway, StepsUnderway}
 
 none_some : {A : Type 0} {y : A} → None ≡ Some y → ⊥
 none_some h = cc h

@@ -1,15 +1,12 @@
 -- New requests go out at slots below the number of those that are out then.
-use Rattle.std.proofs.Common.{◌≡◌, ◌∙◌, ℕ, ℤ, pos, suc, ◌+◌, ◌≤◌, ◌<◌, length, map, List, [], ◌∷◌, ◌++◌, Bool, true, false, ◌&&◌, nat_eq, if◌then◌else◌, refl, sym, ap, subst, arith, length-append}
+use Rattle.std.proofs.Common.{◌≡◌, ◌∙◌, ℕ, suc, ◌+◌, ◌≤◌, ◌<◌, length, map, List, [], ◌∷◌, ◌++◌, true, false, nat_eq, refl, sym, ap, subst, arith, length-append}
 use Rattle.std.proofs.lemmas.List.{length-map}
-use Rattle.std.specs.Ordering.{int_eq}
 use Rattle.std.proofs.lemmas.Bool.{both_ways}
-use Rattle.ax_base.specs.declared.lists.Pair.{Pair}
 use Rattle.ax_text.specs.declared.vocabulary.Answer.{Answer}
-use Rattle.ax_text.specs.Exprs.{Facts, value}
-use Rattle.ax_text.specs.Texts.{Loop, Text, Stop, Act, Ask, If, Each, Both}
-use Rattle.ax_text.specs.Run.{Talk, with_names, act, take_in, turns_of, bind}
+use Rattle.ax_text.specs.Exprs.{Facts}
+use Rattle.ax_text.specs.Run.{Talk}
 use Rattle.ax_text.specs.Prints.{has}
-use Rattle.ax_text.specs.Controls.{Frame, Rest, Turns, Cursor, Next, Take, Begin, Control, Done, Wait, Arms, Ask' as Asked, Turn, slots, waiting, replaced, is_done, least_free, ended, also, joined, begin_text, begin_turns, begin_frame, begin, resume, give_in, give, without}
+use Rattle.ax_text.specs.Controls.{Cursor, Control, Ask' as Asked, Turn, slots, waiting, replaced, least_free, begin, give, without}
 use Rattle.ax_text.specs.Widths.{ControlWide}
 use Rattle.ax_text.specs.Sound.{Low}
 use Rattle.ax_text.specs.Underway.{TakesLeast}

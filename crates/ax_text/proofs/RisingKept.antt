@@ -1,5 +1,5 @@
 -- The entries of maps stay in order.
-use Rattle.std.proofs.Common.{◌≡◌, refl, ap, ◌∙◌, ℤ, List, [], ◌∷◌, ◌++◌, Bool, true, false, pos, Option, Some, None, cond, nat_eq, if◌then◌else◌, slice_index_or, Ordering, Less, Equal, Greater}
+use Rattle.std.proofs.Common.{◌≡◌, refl, ap, ◌∙◌, ℤ, List, [], ◌∷◌, Bool, true, false, pos, Option, Some, None, cond, nat_eq, if◌then◌else◌, slice_index_or, Ordering, Less, Equal, Greater}
 use Rattle.std.specs.List.{AllByRecursion}
 use Rattle.std.specs.List.Sorted.{IsStrictlySortedBy}
 use Rattle.std.specs.Map.{keys_of, remove_entry}
@@ -15,7 +15,7 @@ use Rattle.ax_text.specs.declared.vocabulary.Request.TheVariants as request
 use Rattle.ax_text.specs.Cells.{Cell, Cells, entries_in, kind_of, empty_cell, state_of, answer_of, cell_after, cells_after}
 use Rattle.ax_text.specs.Programs.{untouched}
 use Rattle.ax_text.specs.Exprs.{Facts, value}
-use Rattle.ax_text.specs.Texts.{Asking, Loop, Text, Stop, Act, Ask, If, Each, Both}
+use Rattle.ax_text.specs.Texts.{Loop, Text, Stop, Act, Ask, If, Each, Both}
 use Rattle.ax_text.specs.Run.{World, with_names, request_of, act_in, ask_in, talk_in, apply, turns_of, loop_request, bind, run_turns, choose, run}
 use Rattle.ax_text.specs.Controls.{Going, Event, Serve, Give, serve_at, give_at, request_at, step}
 use Rattle.ax_text.specs.Rising.{IsRising, MapsRise}

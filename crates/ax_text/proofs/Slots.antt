@@ -1,20 +1,19 @@
 -- The slots of a handler on its way.
-use Rattle.std.proofs.Common.{◌≡◌, ◌∙◌, ◌≤◌, ℕ, nat_eq, List, [], ◌∷◌, ◌++◌, Bool, true, false, ◌||◌, refl, sym, ap, Option, Some, None}
+use Rattle.std.proofs.Common.{◌≡◌, ◌∙◌, ◌≤◌, ℕ, nat_eq, List, [], ◌∷◌, ◌++◌, Bool, true, false, ◌||◌, refl, ap, Option, Some, None}
 use Rattle.std.proofs.lemmas.Bool.{eq-eqb}
 use Rattle.ax_text.specs.declared.vocabulary.Request.{Request}
 use Rattle.ax_text.specs.declared.vocabulary.Answer.{Answer}
 use Rattle.ax_text.specs.Exprs.{Facts}
 use Rattle.ax_text.specs.Cells.{Cells}
-use Rattle.ax_text.specs.Texts.{Text, Both}
+use Rattle.ax_text.specs.Texts.{Text}
 use Rattle.ax_text.specs.Programs.{width}
 use Rattle.ax_text.specs.Run.{Talk, World, begun}
-use Rattle.ax_text.specs.Prints.{has, prints, is_accepted, are_silent, are_apart}
-use Rattle.ax_text.specs.Controls.{Rest, Cursor, Control, Done, Wait, Arms, Going, Event, Serve, Give, slots, waiting, begin, without, give, request_at, started, serve_at, give_at, step, steps}
+use Rattle.ax_text.specs.Prints.{has, is_accepted}
+use Rattle.ax_text.specs.Controls.{Rest, Control, Done, Wait, Arms, Going, Event, Serve, Give, slots, waiting, without, give, request_at, started, serve_at, give_at, step, steps}
 use Rattle.ax_text.specs.Widths.{ControlWide, CursorWide, FrameWide}
 use Rattle.ax_text.specs.Sound.{Split, Low}
 use Rattle.ax_text.specs.Futures.{going}
-use Rattle.ax_text.specs.Underway.{IsUnderway, Differ, HasSlots, KeepsSlots}
-use Rattle.ax_text.proofs.Keeps.{by_cases}
+use Rattle.ax_text.specs.Underway.{IsUnderway, Differ, KeepsSlots}
 use Rattle.ax_text.proofs.Steps.{mem_append}
 use Rattle.ax_text.proofs.Wide.{slots_wide, begin_wide, give_in_wide, step_wide}
 use Rattle.ax_text.proofs.LowSlots.{start_low, give_low}

@@ -1,17 +1,15 @@
 -- Controls of accepted texts are sound.
-use Rattle.std.proofs.Common.{◌≡◌, ◌≤◌, ℕ, List, [], ◌∷◌, true}
+use Rattle.std.proofs.Common.{ℕ, List, [], ◌∷◌}
 use Rattle.ax_text.specs.declared.vocabulary.Kind.{Kind}
 use Rattle.ax_text.specs.declared.vocabulary.Answer.{Answer}
 use Rattle.ax_text.specs.Exprs.{Facts}
 use Rattle.ax_text.specs.Texts.{Text}
-use Rattle.ax_text.specs.Programs.{width}
-use Rattle.ax_text.specs.Run.{Talk, run}
-use Rattle.ax_text.specs.Prints.{has, is_accepted}
+use Rattle.ax_text.specs.Run.{Talk}
 use Rattle.ax_text.specs.Controls.{Rest, Cursor, Control, slots, begin, without, give}
 use Rattle.ax_text.specs.Widths.{CursorWide, FrameWide, ControlWide}
-use Rattle.ax_text.specs.Suits.{CursorSuits, FrameSuits, TextSuits}
+use Rattle.ax_text.specs.Suits.{CursorSuits, FrameSuits}
 use Rattle.ax_text.specs.Sound.{everything, BeginsSound, GivesSound}
-use Rattle.ax_text.proofs.Steps.{Goes, IsStep, IsGiven, after_talk, begin_ok, given}
+use Rattle.ax_text.proofs.Steps.{Goes, begin_ok, given}
 use Rattle.ax_text.proofs.Accepting.{accepted_fits}
 use Rattle.ax_text.proofs.Wide.{begin_wide, give_in_wide}
 use Rattle.ax_text.proofs.LowSlots.{start_low, give_low}

@@ -1,8 +1,8 @@
 -- What a text that fits asks is what its states serve.
-use Rattle.std.proofs.Common.{◌≡◌, ℕ, ℤ, pos, List, [], ◌∷◌, ◌++◌, length, Bool, true, false, ◌&&◌, if◌then◌else◌, refl, subst, Option, Some, None, nat_eq, nat_lt}
+use Rattle.std.proofs.Common.{◌≡◌, ℕ, pos, List, [], ◌∷◌, ◌++◌, length, Bool, true, false, ◌&&◌, if◌then◌else◌, refl, subst, Some, None, nat_eq, nat_lt}
 use Rattle.std.specs.Ordering.{int_eq}
 use Rattle.std.specs.List.{slice_index_or}
-use Rattle.std.proofs.lemmas.Bool.{and_parts, both_ways}
+use Rattle.std.proofs.lemmas.Bool.{and_parts}
 use Rattle.ax_base.specs.declared.lists.Pair.{Pair}
 use Rattle.ax_text.specs.declared.vocabulary.Kind.{Kind}
 use Rattle.ax_text.specs.declared.vocabulary.Kind.TheVariants as kind
@@ -12,11 +12,10 @@ use Rattle.ax_text.specs.Exprs.{Facts, Names, value}
 use Rattle.ax_text.specs.Cells.{is_value, is_list, is_map}
 use Rattle.ax_text.specs.Texts.{Asking, Get, GetAt, Has, Empty, Put, PutAt, PutAll, Add, Remove, Clear, Loop, Items, Entries, Text, Stop, Act, Ask, If, Each, Both}
 use Rattle.ax_text.specs.Run.{Talk, with_names, act, request_of, take_in, loop_request, turns_of, bind}
-use Rattle.ax_text.specs.Valid.{same_kind, has_kind, expr_fits, exprs_fit, quiet_fits, asking_fits, loop_fits, text_fits}
+use Rattle.ax_text.specs.Valid.{same_kind, has_kind, expr_fits, quiet_fits, asking_fits, loop_fits, text_fits}
 use Rattle.ax_text.specs.Prints.{has}
 use Rattle.ax_text.specs.Controls.{Frame, Rest, Turns, Cursor, Next, Take, Begin, Control, Done, Wait, Arms, Ask' as Asked, Turn, slots, waiting, is_done, ended, also, joined, begin_text, begin_turns, begin_frame, begin, resume, give_in, without, give, request_at}
 use Rattle.ax_text.specs.Suits.{fits_in, TextSuits, FrameSuits, CursorSuits, NextSuits, Suits, AsksSuit}
-use Rattle.ax_text.proofs.Keeps.{by_cases}
 
 value_same : (k : Kind) → same_kind k kind.Value ≡ is_value k
 value_same kind.Value = refl

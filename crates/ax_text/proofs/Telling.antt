@@ -1,5 +1,5 @@
 -- What was said before makes no difference to a callback, and what it says comes behind.
-use Rattle.std.proofs.Common.{◌≡◌, ℕ, ℤ, pos, ◌+◌, ◌<◌, ◌≤◌, List, [], ◌∷◌, ◌++◌, map, Bool, true, false, ◌&&◌, nat_eq, if◌then◌else◌, refl, sym, ap, ◌∙◌, append_assoc, arith, Option, Some, None}
+use Rattle.std.proofs.Common.{◌≡◌, ℕ, ℤ, pos, ◌+◌, ◌<◌, List, [], ◌∷◌, ◌++◌, map, Bool, true, false, ◌&&◌, nat_eq, if◌then◌else◌, refl, sym, ap, ◌∙◌, append_assoc, arith, Option, Some, None}
 use Rattle.std.specs.Ordering.{int_eq}
 use Rattle.std.proofs.lemmas.Bool.{eq-eqb}
 use Rattle.std.proofs.lemmas.List.{append-nil}
@@ -10,17 +10,16 @@ use Rattle.ax_text.specs.declared.vocabulary.Answer.{Answer}
 use Rattle.ax_text.specs.declared.vocabulary.TimerOp.{TimerOp}
 use Rattle.ax_text.specs.declared.vocabulary.TimerOp.TheVariants as timer
 use Rattle.ax_text.specs.Functions.{upd}
-use Rattle.ax_text.specs.Exprs.{Facts, Names, value}
+use Rattle.ax_text.specs.Exprs.{Facts, value}
 use Rattle.ax_text.specs.Cells.{Cells, answer_of}
-use Rattle.ax_text.specs.Texts.{Quiet, Let, Emit, Timer, Untimer, Asking, Loop, Text, Stop, Act, Ask, If, Each, Both}
-use Rattle.ax_text.specs.Run.{Talk, World, with_names, act, take_in, apply, turns_of, bind, begun, run}
-use Rattle.ax_text.specs.Prints.{has, is_accepted}
-use Rattle.ax_text.specs.Controls.{Frame, Rest, Turns, Cursor, Next, Take, Begin, Control, Done, Wait, Arms, Ask' as Asked, Turn, Answers, Going, Give, slots, is_done, ended, also, joined, begin_text, begin_turns, begin_frame, begin, resume, give_in, without, give, give_at, request_at, left, step}
-use Rattle.ax_text.specs.Sound.{IsSound, everything}
-use Rattle.ax_text.specs.Silent.{silent, told, told_in, turn_told, BeginTells, GiveTells, given_silently, StepsSilently, unanswered, at_once, BeginsAtOnce, ServesAtOnce, ServesMore}
-use Rattle.ax_text.proofs.Keeps.{by_cases, Agree, keeps_left}
-use Rattle.ax_text.proofs.Behind.{Same, behind, same_left}
-use Rattle.ax_text.proofs.Steps.{Blank, BlankBut, Goes, IsStep, IsGiven, after_talk, begin_ok, given, serve_ok, upd_at, upd_off, left_same, without_keeps}
+use Rattle.ax_text.specs.Texts.{Quiet, Let, Emit, Timer, Untimer, Loop, Text, Stop, Act, Ask, If, Each, Both}
+use Rattle.ax_text.specs.Run.{Talk, World, with_names, act, take_in, apply, turns_of, bind}
+use Rattle.ax_text.specs.Prints.{has}
+use Rattle.ax_text.specs.Controls.{Frame, Rest, Turns, Cursor, Next, Take, Begin, Control, Done, Wait, Arms, Ask' as Asked, Turn, Answers, Going, slots, is_done, ended, also, joined, begin_text, begin_turns, begin_frame, begin, resume, give_in, without, give, give_at, left}
+use Rattle.ax_text.specs.Sound.{everything}
+use Rattle.ax_text.specs.Silent.{silent, BeginTells, GiveTells, StepsSilently, unanswered, at_once, BeginsAtOnce, ServesAtOnce, ServesMore}
+use Rattle.ax_text.proofs.Keeps.{by_cases, keeps_left}
+use Rattle.ax_text.proofs.Steps.{Blank, BlankBut, Goes, IsGiven, after_talk, begin_ok, given, serve_ok, upd_at, upd_off, left_same}
 use Rattle.ax_text.proofs.Wakeful.{slot_waits}
 use Rattle.ax_text.proofs.Accepting.{accepted_fits}
 

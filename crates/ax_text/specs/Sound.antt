@@ -1,5 +1,5 @@
 -- What each control of an accepted text is, whatever was served and given.
-use Rattle.std.specs.Prelude.{◌≡◌, ◌≤◌, ◌<◌, refl, ℕ, List, [], ◌∷◌, Bool, true, false, ◌&&◌, Some}
+use Rattle.std.specs.Prelude.{◌≡◌, ◌≤◌, ◌<◌, refl, ℕ, List, [], ◌∷◌, true, false, ◌&&◌, Some}
 use Rattle.ax_text.specs.declared.vocabulary.Kind.{Kind}
 use Rattle.ax_text.specs.declared.vocabulary.Request.{Request}
 use Rattle.ax_text.specs.declared.vocabulary.Answer.{Answer}

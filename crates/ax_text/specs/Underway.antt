@@ -1,11 +1,11 @@
 -- A handler on its way: what each serve and each answer does.
-use Rattle.std.specs.Prelude.{◌≡◌, ◌≢◌, ◌≤◌, ◌<◌, ℕ, suc, ◌-◌, List, [], ◌∷◌, ◌++◌, length, true, false, Option, Some, None}
+use Rattle.std.specs.Prelude.{◌≡◌, ◌≢◌, ◌≤◌, ◌<◌, ℕ, suc, ◌-◌, List, [], ◌∷◌, ◌++◌, length, true, false, Some, None}
 use Rattle.std.specs.List.{AllByRecursion}
 use Rattle.ax_text.specs.declared.vocabulary.Request.{Request}
 use Rattle.ax_text.specs.declared.vocabulary.Answer.{Answer}
 use Rattle.ax_text.specs.Exprs.{Facts}
 use Rattle.ax_text.specs.Cells.{Cells}
-use Rattle.ax_text.specs.Texts.{Text, Both, Stop}
+use Rattle.ax_text.specs.Texts.{Text, Both}
 use Rattle.ax_text.specs.Programs.{width}
 use Rattle.ax_text.specs.Run.{Talk, World, run}
 use Rattle.ax_text.specs.Prints.{has, is_accepted}
