@@ -2,7 +2,7 @@
 use Rattle.std.proofs.Common.{◌≡◌, ◌≢◌, refl, sym, ap, ◌∙◌, ℕ, nat_eq, ℤ, List, [], ◌∷◌, ◌++◌, Bool, true, false, cond, map, is_some, Ordering, Less, Equal, Greater, Option, Some, None}
 use Rattle.std.specs.List.{AllByRecursion}
 use Rattle.std.specs.List.Sorted.{IsStrictlySortedBy}
-use Rattle.std.specs.Map.{keys_of, lookup, remove_entry}
+use Rattle.std.specs.Map.{keys_of, remove_entry}
 use Rattle.std.specs.BTreeMap.{is_at, insert_entry}
 use Rattle.std.specs.Ordering.{int_cmp, match_ordering, is_eq}
 use Rattle.std.specs.Cmp.{tied_itself}
@@ -15,7 +15,7 @@ use Rattle.ax_text.specs.declared.vocabulary.Kind.TheVariants as kind
 use Rattle.ax_text.specs.declared.vocabulary.Answer.{Answer}
 use Rattle.ax_text.specs.declared.vocabulary.Answer.TheVariants as answer
 use Rattle.ax_text.specs.declared.vocabulary.Request.TheVariants as request
-use Rattle.ax_text.specs.Cells.{Cell, Value, Items, Entries, Cells, found, entry_at, entries_in, pair_of, has_none, items_in, answer_in, answer_of, cells_after, empty_cell, kind_of}
+use Rattle.ax_text.specs.Cells.{Cell, Entries, Cells, found, entry_at, entries_in, pair_of, has_none, items_in, answer_in, answer_of, cells_after, empty_cell, kind_of}
 use Rattle.ax_text.specs.Rising.{IsRising, MapsRise}
 
 at_itself : (k : ℤ) → is_at (int_cmp k) k ≡ true
