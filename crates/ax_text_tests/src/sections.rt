@@ -2,7 +2,8 @@
 use ax_base::{Bytes, Line, ListOf, NoMemory};
 use ax_lang::program::Program;
 use ax_lang::reader::{ProgFault, SectionEnd, read_program};
-use ax_lang::step::Stmt;
+use ax_lang::step::{Loop, Stmt};
+use ax_text::Handler;
 use std::alloc::Global;
 
 fn add(lines: &mut Vec<Line>, text: Bytes) -> Result<(), NoMemory> {
@@ -82,7 +83,8 @@ input 0;state a value;state b value;on row;x = get b or 0;put a x;put b x;emit x
 input 1;on row;emit wm;timer time + v1;untimer wm - 1;end|0 0
 input 1;on row;end;on timer;end|0 0
 input 1;on row;timer wm;end;on timer;emit wm , time;end|0 0
-input 1;state s value;on row;x = get s or v1;end;on timer;x = get s or 0;put s x + 1;untimer x;timer time + wm;end|0 0";
+input 1;state s value;on row;x = get s or v1;end;on timer;x = get s or 0;put s x + 1;untimer x;timer time + wm;end|0 0
+input 1;state s list;state m map;on row;put s v1 , 2 * ( v1 + 1 );put m 1 , v1;each x in s;if x < 3;add s x;else;clear m;end;end;each k n in m;remove m k;end;both;y = has m 1;with;let z = v1;end;emit y , z;end|0 0";
 
 const MISPLACED: &str = "\
 ;|1 1
@@ -130,28 +132,6 @@ input 1;state wm value|2 1
 input 1;state v1 value|2 1
 input 1;state s number|2 1";
 
-const UNBUILT: &str = "\
-input 1;state s list|2 13
-input 1;state s map|2 13
-input 1;state s value;state s list|3 13
-input 1;on row;emit 1 * 2|3 13
-input 1;on row;emit 1 < 2|3 13
-input 1;on row;emit ( 1 )|3 13
-input 1;on row;emit x * 2|3 13
-input 1;state s value;on row;emit s * 2|4 13
-input 1;on row;timer time * 2|3 13
-input 1;on row;untimer ( time )|3 13
-input 1;on row;end;on timer;emit v1 * 2|5 13
-input 1;on row;end;on timer;let x = 1|5 13
-input 1;on row;let x = 1|3 13
-input 1;on row;if 1|3 13
-input 1;on row;both|3 13
-input 1;on row;clear s|3 13
-input 1;on row;each x in s|3 13
-input 1;on row;x = has s 1|3 13
-input 1;on row;x = get s 1 or 2|3 13
-input 1;state s value;on row;put s 1 , 2|4 13";
-
 const TWICE: &str = "\
 input 1;input 1|2 3
 input 1;state s value;state s value|3 3
@@ -159,7 +139,8 @@ input 1;on row;end;on row|4 3
 input 1;on row;end;input 2|4 3
 input 1;on row;end;on timer;end;on timer|6 3
 input 1;on row;end;on timer;end;on row|6 3
-input 1;on row;end;on timer;end;input 2|6 3";
+input 1;on row;end;on timer;end;input 2|6 3
+input 1;state s value;state s list|3 3";
 
 const UNKNOWN: &str = "\
 input 1;on row;emit x|3 2
@@ -180,7 +161,11 @@ input 16;on row;emit v1;end;on timer;timer time + v16|6 2
 input 0;on row;end;on timer;untimer v1|5 2
 input 1;state s value;on row;end;on timer;x = get s or v1|6 2
 input 1;state s value;on row;x = get s or 0;end;on timer;emit x|7 2
-input 1;on row;emit x;emit 1 * 2;on row|3 2";
+input 1;on row;emit x;emit 1 * 2;on row|3 2
+input 1;on row;emit x * 2|3 2
+input 1;on row;end;on timer;emit v1 * 2|5 2
+input 1;on row;clear s|3 2
+input 1;on row;x = get s 1 or 2|3 2";
 
 const WRONG_KIND: &str = "\
 input 1;state s value;on row;emit 1 + s|4 4
@@ -188,12 +173,16 @@ input 1;state s value;on row;s = get s or 0|4 4
 input 1;state s value;on row;x = get s or 0;put x 1|5 4
 input 1;state s value;on row;x = get s or 0;y = get x or 0|5 4
 input 1;state s value;on row;timer s|4 4
-input 1;state s value;on row;end;on timer;untimer time + s|6 4";
+input 1;state s value;on row;end;on timer;untimer time + s|6 4
+input 1;state s value;on row;emit s * 2|4 4
+input 1;state s value;on row;put s 1 , 2|4 4";
 
 const DUE: &str = "\
 |1 10
 input 1|2 10
 input 1;on row;emit 1|4 10
+input 1;on row;emit ( 1 ) * 2|4 10
+input 1;on row;both;with;end|6 10
 input 1;on row;end;on timer|5 10
 input 1;on row;end;on timer;emit wm|6 10";
 
@@ -225,7 +214,6 @@ fn first_faults(rt: HostRuntime) {
     let alloc = rt.alloc();
     assert_eq!(rt; first_wrong(alloc, WHOLE), None);
     assert_eq!(rt; first_wrong(alloc, MISPLACED), None);
-    assert_eq!(rt; first_wrong(alloc, UNBUILT), None);
     assert_eq!(rt; first_wrong(alloc, TWICE), None);
     assert_eq!(rt; first_wrong(alloc, UNKNOWN), None);
     assert_eq!(rt; first_wrong(alloc, WRONG_KIND), None);
@@ -319,7 +307,7 @@ fn limits(rt: HostRuntime) {
         (with_states(alloc, 64, "on row"), (0, 0)),
         (with_states(alloc, 64, "state t value"), (66, 8)),
         (with_states(alloc, 64, "state s7 value"), (66, 8)),
-        (with_states(alloc, 64, "state t list"), (66, 13)),
+        (with_states(alloc, 64, "state t list"), (66, 8)),
         (with_states(alloc, 63, "state s7 value"), (65, 3)),
         (with_locals(alloc, 255, "m = get s or 0"), (0, 0)),
         (with_locals(alloc, 256, "m = get s or 0"), (260, 8)),
@@ -332,7 +320,7 @@ fn limits(rt: HostRuntime) {
         (with_numbers(alloc, 128, "s"), (4, 8)),
         (with_numbers(alloc, 127, "x"), (4, 2)),
         (with_numbers(alloc, 127, "s"), (4, 4)),
-        (with_numbers(alloc, 127, "1 * 1"), (4, 13)),
+        (with_numbers(alloc, 127, "1 * 1"), (4, 8)),
         (with_statements(alloc, 10000, 0), (0, 0)),
         (with_statements(alloc, 10001, 0), (10003, 8)),
         (with_statements(alloc, 6000, 4000), (0, 0)),
@@ -363,6 +351,10 @@ fn stands(program: &Program, place: usize) -> (&'static str, usize) {
         Stmt::Emit { .. } => ("emit", step.next),
         Stmt::SetTimer { .. } => ("timer", step.next),
         Stmt::UnsetTimer { .. } => ("untimer", step.next),
+        Stmt::PutAt { .. } => ("put at", step.next),
+        Stmt::Add { .. } => ("add", step.next),
+        Stmt::Clear { .. } => ("clear", step.next),
+        _ => ("other", step.next),
     }
 }
 
@@ -389,8 +381,8 @@ fn a_program_as_steps(rt: HostRuntime) {
     assert_eq!(rt; program.width(), 1);
     assert!(&rt; !program.has_timer());
     assert_eq!(rt; program.locals(), 1);
-    assert_eq!(rt; program.first(), 3);
-    assert_eq!(rt; program.timer_first(), 0);
+    assert_eq!(rt; program.place_of(Handler::Row), 3);
+    assert_eq!(rt; program.place_of(Handler::Timer), 0);
     assert_eq!(rt; stands(&program, 3), ("get", 2));
     assert_eq!(rt; stands(&program, 2), ("put", 1));
     assert_eq!(rt; stands(&program, 1), ("emit", 0));
@@ -408,8 +400,8 @@ fn two_handlers_as_steps(rt: HostRuntime) {
     };
     assert!(&rt; program.has_timer());
     assert_eq!(rt; program.locals(), 2);
-    assert_eq!(rt; program.first(), 1);
-    assert_eq!(rt; program.timer_first(), 4);
+    assert_eq!(rt; program.place_of(Handler::Row), 1);
+    assert_eq!(rt; program.place_of(Handler::Timer), 4);
     assert_eq!(rt; stands(&program, 1), ("timer", 0));
     assert_eq!(rt; stands(&program, 4), ("untimer", 3));
     assert_eq!(rt; stands(&program, 3), ("get", 2));
@@ -424,5 +416,49 @@ fn an_empty_timer_handler(rt: HostRuntime) {
         return;
     };
     assert!(&rt; program.has_timer());
-    assert_eq!(rt; program.timer_first(), 0);
+    assert_eq!(rt; program.place_of(Handler::Timer), 0);
+}
+
+#[test]
+fn blocks_as_steps(rt: HostRuntime) {
+    let text =
+        "input 1; state l list; state m map; on row; if v1; add l v1; else; clear m; end; each k n in m; emit n; end; put m v1 , 2; end";
+    let Some(program) = program_of(rt.alloc(), text) else {
+        assert!(&rt; false);
+        return;
+    };
+    let start = program.place_of(Handler::Row);
+    let Some(first) = program.step(start) else {
+        assert!(&rt; false);
+        return;
+    };
+    assert_eq!(rt; branches(&program, &first.stmt), ("add", "clear"));
+    let Some(second) = program.step(first.next) else {
+        assert!(&rt; false);
+        return;
+    };
+    assert_eq!(rt; entries(&program, &second.stmt), (0, 1, 1, "emit"));
+    assert_eq!(rt; stands(&program, second.next).0, "put at");
+    assert_eq!(rt; program.locals(), 2);
+}
+
+// What the parts of an `if` begin with.
+fn branches(program: &Program, stmt: &Stmt) -> (&'static str, &'static str) {
+    match stmt {
+        Stmt::If { one, other, .. } => (stands(program, *one).0, stands(program, *other).0),
+        _ => ("no", "if"),
+    }
+}
+
+// The names and the state of an `each` over a map, and what its turns begin with.
+fn entries(program: &Program, stmt: &Stmt) -> (usize, usize, u8, &'static str) {
+    match stmt {
+        Stmt::Each { turn, body } => match turn {
+            Loop::Entries { key, number, state } => {
+                (*key, *number, *state, stands(program, *body).0)
+            }
+            Loop::Items { .. } => (9, 9, 9, "items"),
+        },
+        _ => (9, 9, 9, "no each"),
+    }
 }
