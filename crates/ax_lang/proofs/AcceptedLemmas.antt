@@ -1,7 +1,8 @@
 -- Accepted lines make a valid program.
-use Rattle.std.proofs.Common.{◌≡◌, ◌∙◌, ℕ, ◌≤◌, List, [], ◌∷◌, map, length, refl, sym, ap, subst, arith, Bool, true, false, ◌&&◌, Option, Some, None, if◌then◌else◌}
+use Rattle.std.proofs.Common.{◌≡◌, ℕ, ◌≤◌, List, [], ◌∷◌, map, length, refl, sym, subst, arith, Bool, true, false, ◌&&◌, Option, Some, None, if◌then◌else◌}
 use Rattle.std.specs.List.{list_all}
 use Rattle.std.proofs.lemmas.Option.{none-some}
+use Rattle.std.proofs.lemmas.Bool.{true≢false}
 use Rattle.std.proofs.lemmas.List.{length-map}
 use Rattle.ax_base.specs.declared.lines.Line.{Line}
 use Rattle.ax_base.specs.Words.{words_of}
@@ -9,16 +10,15 @@ use Rattle.ax_text.specs.declared.vocabulary.Kind.{Kind}
 use Rattle.ax_text.specs.Names.{Word, is_name, are_distinct}
 use Rattle.ax_text.specs.Programs.{Program, kinds_of}
 use Rattle.ax_text.specs.Rows.{text_of}
-use Rattle.ax_text.specs.Valid.{IsValid, text_fits, timer_fits, names_of as program_names}
+use Rattle.ax_text.specs.Valid.{IsValid, text_fits, timer_fits}
 use Rattle.ax_syntax.specs.Shapes.{Shape}
 use Rattle.ax_rules.specs.declared.kinds.FaultKind.{FaultKind}
 use Rattle.ax_rules.specs.declared.kinds.FaultKind.TheVariants as fault
-use Rattle.ax_rules.specs.declared.section.Reading.{Reading as Section}
 use Rattle.ax_rules.specs.declared.section.Reading.TheVariants as section
 use Rattle.ax_rules.specs.declared.section.SectionEnd.{SectionEnd}
 use Rattle.ax_rules.specs.declared.tables.Tables.{Tables}
-use Rattle.ax_rules.specs.Lines.{names_of, tables_of}
-use Rattle.ax_rules.specs.Sections.{shape_in, fault_at, with_line, shapes_from, shapes_of, or_fault, is_whole, ended, read_from, reading_of}
+use Rattle.ax_rules.specs.Lines.{tables_of}
+use Rattle.ax_rules.specs.Sections.{shape_in, fault_at, with_line, shapes_from, or_fault, is_whole, ended, read_from, reading_of}
 use Rattle.ax_lang.specs.Rows.{HandlerRows, rows_of}
 use Rattle.ax_lang.specs.Clean.{Clean}
 use Rattle.ax_lang.specs.Programs.{state_in, fields_or, timer_text, program_in, Reading, Faulty, Accepted, said_by, program_of}
@@ -77,6 +77,7 @@ read_valid before [] end c = ended_valid before end c
 read_valid before (l ∷ ls) end c = cases (fault_at before (shape_in l)) (λ f. read_valid (with_line (shape_in l) before) ls end (clean_on before (shape_in l) c (shape_well (words_of l.text)) f)) where
   more : List Shape
   more = with_line (shape_in l) before
+
   cases : (o : Option FaultKind) → (o ≡ None → IsValidIf (said_by (shapes_from more ls) (read_from more ls end))) → IsValidIf (said_by (shapes_from more ls) (or_fault o l.number (read_from more ls end)))
   cases None go = go refl
   cases (Some kind) go = tt
@@ -85,3 +86,31 @@ read_valid before (l ∷ ls) end c = cases (fault_at before (shape_in l)) (λ f.
 pub accepted_valid : (lines : List Line) (end : SectionEnd) (p : Program) → program_of lines end ≡ Accepted p → IsValid p
 unfolding program_of reading_of IsValidIf
 accepted_valid lines end p e = subst IsValidIf e (read_valid [] lines end tt)
+
+-- a section that did not end says no program
+
+abbrev pub IsFaulty : Reading → Type 0
+IsFaulty (Faulty line kind) = Unit {0}
+IsFaulty (Accepted p) = ⊥
+
+not_ended : (ls : List Shape) (end : SectionEnd) → end.found ≡ false → IsFaulty (said_by ls (ended ls end))
+unfolding ended
+not_ended ls end f = cases (is_whole (tables_of ls)) end.found f where
+  cases : (b found : Bool) → found ≡ false → IsFaulty (said_by ls (if b && found then section.Whole (tables_of ls) else section.Faulty end.line fault.NoEnd))
+  cases true true g = absurd (true≢false g)
+  cases true false g = tt
+  cases false found g = tt
+
+unfinished_from : (before : List Shape) (ls : List Line) (end : SectionEnd) → end.found ≡ false → IsFaulty (said_by (shapes_from before ls) (read_from before ls end))
+unfolding read_from
+unfinished_from before [] end f = not_ended before end f
+unfinished_from before (l ∷ ls) end f = cases (fault_at before (shape_in l)) (unfinished_from (with_line (shape_in l) before) ls end f) where
+  more : List Shape
+  more = with_line (shape_in l) before
+  cases : (o : Option FaultKind) → IsFaulty (said_by (shapes_from more ls) (read_from more ls end)) → IsFaulty (said_by (shapes_from more ls) (or_fault o l.number (read_from more ls end)))
+  cases None go = go
+  cases (Some kind) go = tt
+
+pub unfinished : (lines : List Line) (end : SectionEnd) → end.found ≡ false → IsFaulty (program_of lines end)
+unfolding program_of reading_of
+unfinished lines end f = unfinished_from [] lines end f

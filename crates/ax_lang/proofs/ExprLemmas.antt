@@ -1,21 +1,19 @@
 -- Expressions of lines without fault: what they speak of exists.
 use Rattle.std.proofs.Common.{◌≡◌, ◌∙◌, ℕ, zero, suc, ◌+◌, ◌-◌, ◌≤◌, ◌<◌, ◌^◌, ℤ, pos, neg_ℤ, List, [], ◌∷◌, map, length, refl, sym, ap, subst, arith, Bool, true, false, not, ◌&&◌, ◌||◌, nat_le, nat_lt, ◌==◌, Option, Some, None, if◌then◌else◌, is_some}
 use Rattle.std.specs.List.{list_all, list_any}
-use Rattle.std.proofs.lemmas.Bool.{and_parts, and_from, leb-true, le-leb, lt-ltb, ltb-true, true≢false, false≢true, or_parts, or_left, or_right, not-false, not-true, not_from_false}
+use Rattle.std.proofs.lemmas.Bool.{and_parts, and_from, leb-true, le-leb, lt-ltb, true≢false, false≢true, or_parts, or_left, or_right, not-false, not-true, not_from_false}
 use Rattle.std.proofs.lemmas.List.{length-map}
 use lib.Chars.{codes}
 use Rattle.ax_base.specs.Numbers.{value_from, are_digits, positive, negative, unsigned_by, number_of, is_number}
 use Rattle.ax_base.proofs.NumberLemmas.{number_fits}
 use Rattle.ax_text.specs.declared.vocabulary.Op.{Op}
-use Rattle.ax_text.specs.declared.vocabulary.Kind.{Kind}
-use Rattle.ax_text.specs.declared.vocabulary.Kind.TheVariants as kind
 use Rattle.ax_text.specs.declared.vocabulary.Atom.{Atom}
 use Rattle.ax_text.specs.declared.vocabulary.Atom.TheVariants as atom
 use Rattle.ax_text.specs.declared.vocabulary.Keyword.{Keyword}
 use Rattle.ax_text.specs.declared.vocabulary.Keyword.TheVariants as k
 use Rattle.ax_text.specs.Names.{Word, same_word, keyword_of, is_value_word, is_name, mem}
 use Rattle.ax_text.specs.Exprs.{Expr, Leaf, Join}
-use Rattle.ax_text.specs.Valid.{has_kind, atom_fits, expr_fits, exprs_fit}
+use Rattle.ax_text.specs.Valid.{atom_fits, expr_fits, exprs_fit}
 use Rattle.ax_syntax.specs.Words.{from_one_to_sixteen, unpadded, field_number, sign_of, is_moment, is_operand}
 use Rattle.ax_syntax.specs.Shapes.{goes_on, is_expr, is_exprs, onto_first, parts_of}
 use Rattle.ax_syntax.proofs.PartLemmas.{parts_of_some}

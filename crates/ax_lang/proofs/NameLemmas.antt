@@ -1,8 +1,8 @@
 -- Names of lines, and the places that rows have for them.
-use Rattle.std.proofs.Common.{◌≡◌, ◌∙◌, ℕ, zero, suc, ◌+◌, ◌≤◌, ◌<◌, List, [], ◌∷◌, ◌++◌, map, length, length-append, refl, sym, ap, subst, arith, max, Bool, true, false, not, ◌&&◌, ◌||◌, nat_lt, nat_eq, ◌==◌, slice_index_or, Option, Some, None, if◌then◌else◌}
-use Rattle.std.specs.List.{list_all, list_any}
+use Rattle.std.proofs.Common.{◌≡◌, ◌∙◌, ℕ, suc, ◌+◌, ◌≤◌, ◌<◌, List, [], ◌∷◌, ◌++◌, map, length, length-append, refl, sym, ap, subst, arith, Bool, true, false, not, ◌&&◌, ◌||◌, nat_lt, nat_eq, ◌==◌, slice_index_or, Option, Some, None, if◌then◌else◌}
+use Rattle.std.specs.List.{list_all}
 use Rattle.std.proofs.lemmas.Option.{none-some}
-use Rattle.std.proofs.lemmas.Bool.{and_parts, and_from, lt-ltb, ltb-false, eq-eqb, eqb-true, true≢false, false≢true, not-true, not-false, or_parts, or_left, or_right}
+use Rattle.std.proofs.lemmas.Bool.{and_parts, and_from, lt-ltb, ltb-false, eq-eqb, eqb-true, true≢false, false≢true, not-true, not-false, or_parts, or_right}
 use Rattle.std.proofs.lemmas.List.{length-map}
 use Rattle.ax_text.specs.declared.vocabulary.Kind.{Kind}
 use Rattle.ax_text.specs.declared.vocabulary.Kind.TheVariants as kind
@@ -17,7 +17,7 @@ use Rattle.ax_rules.specs.declared.tables.DeclaredState.{DeclaredState}
 use Rattle.ax_rules.specs.declared.tables.Tables.{Tables}
 use Rattle.ax_rules.specs.Parts.{mem, index_of, with_word, some_is, use_of}
 use Rattle.ax_rules.specs.Lines.{names_of}
-use Rattle.ax_rules.specs.Faults.{is_state, is_local, one_if, is_new, count_new, is_last_state, is_too_many, is_value, is_list, is_map, takes, serves, kind_of, some_serves, is_unserved}
+use Rattle.ax_rules.specs.Faults.{is_state, one_if, is_new, count_new, is_last_state, is_too_many, is_value, is_list, is_map, takes, serves, kind_of, some_serves, is_unserved}
 use Rattle.ax_lang.specs.Rows.{place_or, place_in, put_by}
 use Rattle.ax_lang.specs.Programs.{kind_in}
 use Rattle.ax_lang.proofs.TokenLemmas.{same_equal}
@@ -175,6 +175,7 @@ found [] w k n h = absurd (none-some k h)
 found (d ∷ ds) w k n h = cases (λ e. found ds w k (n + 1) e) (same_word d.name w) h where
   some : (a b : KindWord) → Some a ≡ Some b → a ≡ b
   some a b e = cc
+
   cases : (kind_of ds w ≡ Some k → (p : ℕ) × (place_or (index_of (n + 1) (names_of ds) w) ≡ n + 1 + p) × (p < length ds) × (slice_index_or (kinds_in ds) p kind.Value ≡ kind_in k))
       → (b : Bool) → (if b then Some d.kind else kind_of ds w) ≡ Some k
       → (p : ℕ) × (place_or (if b then Some n else index_of (n + 1) (names_of ds) w) ≡ n + p) × (p < length (d ∷ ds)) × (slice_index_or (kinds_in (d ∷ ds)) p kind.Value ≡ kind_in k)

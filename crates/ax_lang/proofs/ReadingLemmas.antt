@@ -1,7 +1,6 @@
 -- Reading, one line on.
-use Rattle.std.proofs.Common.{◌≡◌, ◌∙◌, ℕ, ◌+◌, ◌<◌, ◌≤◌, List, [], ◌∷◌, length, get_or, take, Option, Some, None, Bool, true, false, ◌&&◌, refl, sym, ap, subst, Ok}
+use Rattle.std.proofs.Common.{◌≡◌, ◌∙◌, ℕ, ◌+◌, ◌<◌, ◌≤◌, List, ◌∷◌, length, get_or, take, Option, Some, None, true, false, ◌&&◌, sym, ap, subst, Ok}
 use Rattle.std.proofs.lemmas.List.{take_all}
-use Rattle.std.proofs.lemmas.Option.{none-some}
 use Rattle.ax_base.specs.declared.lines.Line.{Line}
 use Rattle.ax_base.specs.Words.{words_of}
 use Rattle.ax_syntax.specs.Shapes.{Shape}
@@ -17,7 +16,7 @@ use Rattle.ax_rules.specs.Taking.{fault_some, behind_some}
 use Rattle.ax_rules.proofs.SectionLemmas.{ReadsOn, shapes_more, fault_is, behind_is, line_taken, fault_told, whole, due}
 use Rattle.ax_lang.specs.Rows.{HandlerRows, with_row, row_of, rows_of}
 use Rattle.ax_lang.specs.Clean.{Clean, AreClean}
-use Rattle.ax_lang.specs.Programs.{program_in, Reading, Faulty, Accepted, said_by, program_of, rows_behind, TakesLine}
+use Rattle.ax_lang.specs.Programs.{program_in, Faulty, Accepted, said_by, program_of, rows_behind, TakesLine}
 use Rattle.ax_lang.proofs.AcceptedLemmas.{clean_on}
 use Rattle.ax_lang.proofs.ShapeLemmas.{shape_well}
 

@@ -1,16 +1,15 @@
 -- Lines without fault: what their rows speak of exists.
-use Rattle.std.proofs.Common.{◌≡◌, ◌∙◌, ℕ, ◌+◌, ◌≤◌, ◌<◌, List, [], ◌∷◌, ◌++◌, map, length, length-append, refl, sym, ap, subst, arith, max, Bool, true, false, not, ◌&&◌, ◌||◌, nat_le, nat_lt, Option, Some, None, if◌then◌else◌, is_some}
+use Rattle.std.proofs.Common.{◌≡◌, ◌∙◌, ℕ, ◌+◌, ◌≤◌, ◌<◌, List, [], ◌∷◌, ◌++◌, map, length, length-append, refl, sym, ap, subst, arith, max, Bool, true, false, not, ◌&&◌, ◌||◌, nat_lt, Option, Some, None, if◌then◌else◌, is_some}
 use Rattle.std.specs.List.{list_all, list_any}
 use Rattle.std.proofs.lemmas.Option.{none-some}
 use Rattle.std.proofs.lemmas.Bool.{and_parts, and_from, leb-false, lt-ltb, true≢false, false≢true, not-true, not-false, or_parts}
 use Rattle.std.proofs.lemmas.List.{length-map, map-append}
 use Rattle.std.proofs.lemmas.List.Folds.{list_all-append}
-use Rattle.ax_text.specs.declared.vocabulary.Kind.{Kind}
 use Rattle.ax_text.specs.Names.{is_name, are_distinct}
 use Rattle.ax_text.specs.Rows.{Row, EndRow}
-use Rattle.ax_text.specs.Valid.{expr_fits, exprs_fit}
+use Rattle.ax_text.specs.Valid.{expr_fits}
 use Rattle.ax_syntax.specs.declared.shape.KindWord.{KindWord}
-use Rattle.ax_syntax.specs.Words.{Word, same_word}
+use Rattle.ax_syntax.specs.Words.{Word}
 use Rattle.ax_syntax.specs.Shapes.{Shape, is_expr, is_exprs, parts_of}
 use Rattle.ax_syntax.specs.Shapes as shape
 use Rattle.ax_rules.specs.declared.kinds.FaultKind.{FaultKind}
@@ -20,15 +19,15 @@ use Rattle.ax_rules.specs.declared.tables.DeclaredState.{DeclaredState}
 use Rattle.ax_rules.specs.declared.tables.Tables.{Tables}
 use Rattle.ax_rules.specs.declared.blocks.Part.{Part}
 use Rattle.ax_rules.specs.Frames.{is_yes, is_one, top_is}
-use Rattle.ax_rules.specs.Parts.{mem, set_of, also_of, reads_of, more_of, use_of, some_is, with_word}
+use Rattle.ax_rules.specs.Parts.{set_of, also_of, reads_of, more_of, some_is, with_word}
 use Rattle.ax_rules.specs.Lines.{names_of, tables_of}
-use Rattle.ax_rules.specs.Faults.{is_state, is_inside, may_stand, is_last_state, is_too_many, is_too_deep, is_twice, is_unknown, is_unknown_use, has_unknown, takes, is_unserved, has_wrong_kind, block_fault, print_in, fault_in, fault_by}
+use Rattle.ax_rules.specs.Faults.{is_state, is_inside, may_stand, is_too_many, is_too_deep, is_twice, is_unknown, is_unknown_use, has_unknown, takes, is_unserved, has_wrong_kind, fault_in, fault_by}
 use Rattle.ax_rules.specs.Taking.{behind}
 use Rattle.ax_rules.proofs.FaultLemmas.{behind_line}
 use Rattle.ax_lang.specs.Steps.{row_fits}
-use Rattle.ax_lang.specs.Rows.{HandlerRows, no_rows, with_row, row_of, rows_of, place_in, tree_in, put_by}
+use Rattle.ax_lang.specs.Rows.{HandlerRows, no_rows, with_row, row_of, rows_of, place_in, tree_in}
 use Rattle.ax_lang.specs.Clean.{WellShaped, Clean}
-use Rattle.ax_lang.specs.Programs.{kind_in, fields_or}
+use Rattle.ax_lang.specs.Programs.{fields_or}
 use Rattle.ax_lang.proofs.FitLemmas.{rows_grow}
 use Rattle.ax_lang.proofs.ExprLemmas.{values_of, is_known, expr_known, exprs_known, all_known}
 use Rattle.ax_lang.proofs.NameLemmas.{with_mem, with_keeps, same_names, room, last, one_few, two_few, name_low, places_differ, distinct_last, kinds_in, served, state_fits, value_fits, list_fits, map_fits, put_fits}

@@ -16,6 +16,7 @@ use crate::program::Program;
 use crate::rows::row_of;
 use crate::step::Row;
 use ax_base::{Duplicate, Line, ListOf, NoMemory};
+pub use ax_rules::SectionEnd;
 use ax_rules::{DeclaredState, FaultKind, Tables};
 use ax_state::{Decl, Decls};
 use ax_syntax::KindWord;
@@ -24,8 +25,6 @@ use ax_syntax::words::words;
 use ax_text::Kind;
 use std::alloc::Global;
 use thiserror::Error;
-
-pub use ax_rules::SectionEnd;
 
 /// Why there is no program.
 #[derive(Clone, Copy, Debug, PartialEq, Eq, Error)]

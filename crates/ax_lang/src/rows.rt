@@ -223,7 +223,13 @@ fn change_of(alloc: Global, tables: &Tables, shape: &Shape) -> Result<Option<Row
     let stmt = match shape {
         Shape::Put(state, values) => {
             let kind = tables.kind_of(state.as_slice());
-            put_by(alloc, locals, kind, state_in(states, state.as_slice()), values)?
+            put_by(
+                alloc,
+                locals,
+                kind,
+                state_in(states, state.as_slice()),
+                values,
+            )?
         }
         Shape::Add(state, value) => Stmt::Add {
             state: state_in(states, state.as_slice()),

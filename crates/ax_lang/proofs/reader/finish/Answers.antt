@@ -1,4 +1,4 @@
-use Rattle.std.proofs.Common.{◌≡◌, ◌∙◌, ◌≤◌, ℕ, Bool, List, [], map, max, length, sym, ap, subst, arith, true}
+use Rattle.std.proofs.Common.{◌≡◌, ◌∙◌, ◌≤◌, ℕ, List, [], map, max, length, sym, ap, subst, arith, true}
 use Rattle.std.specs.List.{list_all}
 use Rattle.ax_text.specs.declared.vocabulary.Kind.{Kind}
 use Rattle.ax_text.specs.Names.{Word, is_name, are_distinct}
@@ -6,13 +6,12 @@ use Rattle.ax_text.specs.Rows.{Row, follow, all_ok}
 use Rattle.ax_state.specs.Decls.{kinds}
 use Rattle.ax_rules.specs.declared.tables.DeclaredState.{DeclaredState}
 use Rattle.ax_lang.specs.Forms.{shown_row}
-use Rattle.ax_lang.specs.Steps.{row_fits, rows_some}
+use Rattle.ax_lang.specs.Steps.{row_fits}
 use Rattle.ax_lang.specs.Blocks.{begun, counted}
 use Rattle.ax_lang.specs.Programs.{state_in, shown_handlers, fields_or}
 use Rattle.ax_lang.proofs.AcceptedLemmas.{few_fields}
 use Rattle.ax_lang.proofs.DeclLemmas.{decl_names, decl_kinds, decl_count}
 use Rattle.ax_lang.proofs.FinishLemmas.{finished}
-use Rattle.ax_lang.proofs.NameLemmas.{kinds_in}
 use Rattle.ax_lang.proofs.reader.finish.Goals as goal
 
 pub timer_if-timer-requires : goal.timer_if-timer-requires

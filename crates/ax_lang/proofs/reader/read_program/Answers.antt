@@ -1,15 +1,13 @@
-use Rattle.std.proofs.Common.{◌≡◌, ◌∙◌, ◌≤◌, ◌<◌, List, length, map, sym, ap, ap₂, subst, arith, Some, None}
-use Rattle.ax_rules.specs.declared.tables.Tables.{Tables}
-use Rattle.ax_rules.specs.declared.kinds.FaultKind.TheVariants as fault
+use Rattle.std.proofs.Common.{◌∙◌, ◌≤◌, ◌<◌, List, length, map, sym, ap, ap₂, subst, arith, Some, None}
 use Rattle.ax_rules.specs.Sections.{shape_in}
 use Rattle.ax_rules.proofs.SectionLemmas.{start}
 use Rattle.ax_text.specs.Rows.{Row}
 use Rattle.ax_lang.specs.declared.step.Row.{Row as CodeRow}
 use Rattle.ax_lang.specs.Forms.{shown_row}
 use Rattle.ax_lang.specs.Rows.{HandlerRows}
-use Rattle.ax_lang.specs.Programs.{Reading, Faulty, shown_handlers, ReadsProgram, IsProgram}
+use Rattle.ax_lang.specs.Programs.{Reading, Faulty, shown_handlers, IsProgram}
 use Rattle.ax_lang.proofs.FinishLemmas.{sound}
-use Rattle.ax_lang.proofs.ReadingLemmas.{Reads, taken, told, not_done, done, are_clean, by_answer}
+use Rattle.ax_lang.proofs.ReadingLemmas.{taken, told, not_done, done, are_clean, by_answer}
 use Rattle.ax_lang.proofs.reader.read_program.Goals as goal
 
 abbrev handler_rows : List Row → List Row → HandlerRows
