@@ -1,5 +1,5 @@
 -- Accepted lines make a valid program.
-use Rattle.std.proofs.Common.{◌≡◌, ℕ, ◌≤◌, List, [], ◌∷◌, map, length, refl, sym, subst, arith, Bool, true, false, ◌&&◌, Option, Some, None, if◌then◌else◌}
+use Rattle.std.proofs.Common.{◌≡◌, ℕ, ◌≤◌, List, [], ◌∷◌, map, length, max, refl, sym, subst, arith, Bool, true, false, ◌&&◌, Option, Some, None, if◌then◌else◌}
 use Rattle.std.specs.List.{list_all}
 use Rattle.std.proofs.lemmas.Option.{none-some}
 use Rattle.std.proofs.lemmas.Bool.{true≢false}
@@ -8,8 +8,11 @@ use Rattle.ax_base.specs.declared.lines.Line.{Line}
 use Rattle.ax_base.specs.Words.{words_of}
 use Rattle.ax_text.specs.declared.vocabulary.Kind.{Kind}
 use Rattle.ax_text.specs.Names.{Word, is_name, are_distinct}
-use Rattle.ax_text.specs.Programs.{Program, kinds_of}
-use Rattle.ax_text.specs.Rows.{text_of}
+use Rattle.ax_text.specs.Programs.{Program, kinds_of, text_or_stop, width, width_some}
+use Rattle.ax_text.specs.Prints.{is_accepted}
+use Rattle.ax_text.specs.Rows.{Row, text_of, all_ok, follow}
+use Rattle.ax_text.proofs.RowsAccepted.{accepted}
+use Rattle.ax_text.proofs.RowWidths.{counted_width}
 use Rattle.ax_text.specs.Valid.{IsValid, text_fits, timer_fits}
 use Rattle.ax_syntax.specs.Shapes.{Shape}
 use Rattle.ax_rules.specs.declared.kinds.FaultKind.{FaultKind}
@@ -20,7 +23,10 @@ use Rattle.ax_rules.specs.declared.tables.Tables.{Tables}
 use Rattle.ax_rules.specs.Lines.{tables_of}
 use Rattle.ax_rules.specs.Sections.{shape_in, fault_at, with_line, shapes_from, or_fault, is_whole, ended, read_from, reading_of}
 use Rattle.ax_lang.specs.Rows.{HandlerRows, rows_of}
+use Rattle.ax_lang.specs.Blocks.{begun, counted}
 use Rattle.ax_lang.specs.Clean.{Clean}
+use Rattle.ax_lang.specs.Laws.{AreApart}
+use Rattle.ax_lang.proofs.BlockLemmas.{blocks_hold}
 use Rattle.ax_lang.specs.Programs.{state_in, fields_or, timer_text, program_in, Reading, Faulty, Accepted, said_by, program_of}
 use Rattle.ax_lang.proofs.DeclLemmas.{names_same, kinds_same}
 use Rattle.ax_lang.proofs.FitLemmas.{text_of_fits}
@@ -59,33 +65,72 @@ pub clean_on : (before : List Shape) (s : Option Shape) → Clean before → Wel
 clean_on before None c w f = absurd (none-some fault.Word (sym f))
 clean_on before (Some s) c w f = (w, f, c)
 
--- a reading that is a program, if any, is a valid one
-IsValidIf : Reading → Type 0
-IsValidIf (Faulty line kind) = Unit {0}
-IsValidIf (Accepted p) = IsValid p
+-- what holds of a program, if a reading is one
+HoldsIf : (Program → Type 0) → Reading → Type 0
+HoldsIf P (Faulty line kind) = Unit {0}
+HoldsIf P (Accepted p) = P p
 
-ended_valid : (ls : List Shape) (end : SectionEnd) → Clean ls → IsValidIf (said_by ls (ended ls end))
-unfolding ended IsValidIf
-ended_valid ls end c = cases (is_whole (tables_of ls) && end.found) where
-  cases : (b : Bool) → IsValidIf (said_by ls (if b then section.Whole (tables_of ls) else section.Faulty end.line fault.NoEnd))
-  cases true = program_in_valid (tables_of ls) (rows_of ls) (sound_lines ls c)
-  cases false = tt
+-- what holds of the program of whole lines without fault
+HoldsOfClean : (Program → Type 0) → Type 0
+HoldsOfClean P = (ls : List Shape) → Clean ls → is_whole (tables_of ls) ≡ true → P (program_in (tables_of ls) (rows_of ls))
 
-read_valid : (before : List Shape) (ls : List Line) (end : SectionEnd) → Clean before → IsValidIf (said_by (shapes_from before ls) (read_from before ls end))
-unfolding read_from IsValidIf
-read_valid before [] end c = ended_valid before end c
-read_valid before (l ∷ ls) end c = cases (fault_at before (shape_in l)) (λ f. read_valid (with_line (shape_in l) before) ls end (clean_on before (shape_in l) c (shape_well (words_of l.text)) f)) where
+ended_holds : (P : Program → Type 0) → HoldsOfClean P → (ls : List Shape) (end : SectionEnd) → Clean ls → HoldsIf P (said_by ls (ended ls end))
+unfolding ended HoldsIf HoldsOfClean
+ended_holds P h ls end c = cases (is_whole (tables_of ls)) end.found refl where
+  cases : (b found : Bool) → is_whole (tables_of ls) ≡ b → HoldsIf P (said_by ls (if b && found then section.Whole (tables_of ls) else section.Faulty end.line fault.NoEnd))
+  cases true true e = h ls c e
+  cases true false e = tt
+  cases false found e = tt
+
+read_holds : (P : Program → Type 0) → HoldsOfClean P → (before : List Shape) (ls : List Line) (end : SectionEnd) → Clean before → HoldsIf P (said_by (shapes_from before ls) (read_from before ls end))
+unfolding read_from HoldsIf
+read_holds P h before [] end c = ended_holds P h before end c
+read_holds P h before (l ∷ ls) end c = cases (fault_at before (shape_in l)) (λ f. read_holds P h (with_line (shape_in l) before) ls end (clean_on before (shape_in l) c (shape_well (words_of l.text)) f)) where
   more : List Shape
   more = with_line (shape_in l) before
 
-  cases : (o : Option FaultKind) → (o ≡ None → IsValidIf (said_by (shapes_from more ls) (read_from more ls end))) → IsValidIf (said_by (shapes_from more ls) (or_fault o l.number (read_from more ls end)))
+  cases : (o : Option FaultKind) → (o ≡ None → HoldsIf P (said_by (shapes_from more ls) (read_from more ls end))) → HoldsIf P (said_by (shapes_from more ls) (or_fault o l.number (read_from more ls end)))
   cases None go = go refl
   cases (Some kind) go = tt
 
+program_holds : (P : Program → Type 0) → HoldsOfClean P → (lines : List Line) (end : SectionEnd) (p : Program) → program_of lines end ≡ Accepted p → P p
+unfolding program_of reading_of HoldsIf
+program_holds P h lines end p e = subst (HoldsIf P) e (read_holds P h [] lines end tt)
+
+clean_valid : HoldsOfClean IsValid
+unfolding HoldsOfClean
+clean_valid ls c w = program_in_valid (tables_of ls) (rows_of ls) (sound_lines ls c)
+
 -- a program that lines say is valid
 pub accepted_valid : (lines : List Line) (end : SectionEnd) (p : Program) → program_of lines end ≡ Accepted p → IsValid p
-unfolding program_of reading_of IsValidIf
-accepted_valid lines end p e = subst IsValidIf e (read_valid [] lines end tt)
+accepted_valid = program_holds IsValid clean_valid
+
+timer_arms : (b : Bool) (rows : List Row) → all_ok rows [] ≡ true → is_accepted (text_or_stop (timer_text b rows)) ≡ true
+unfolding is_accepted
+timer_arms true rows h = accepted rows h
+timer_arms false rows h = refl
+
+timer_wide : (b : Bool) (rows : List Row) → follow rows begun ≡ true → width_some (timer_text b rows) ≤ counted rows
+timer_wide true rows h = (let e : counted rows ≡ width (text_of rows) = counted_width rows h in omega arith)
+timer_wide false rows h = omega arith
+
+clean_apart : HoldsOfClean AreApart
+unfolding HoldsOfClean program_in
+clean_apart ls c w =
+    let h = blocks_hold ls c w in
+    let row : counted (rows_of ls).row ≡ width (text_of (rows_of ls).row) = counted_width (rows_of ls).row h.row_follows in
+    let timer = timer_wide (tables_of ls).timer (rows_of ls).timer h.timer_follows in
+    let is : (tables_of ls).widest ≡ max (counted (rows_of ls).row) (counted (rows_of ls).timer) = h.width in
+    let few : (tables_of ls).widest ≤ 16 = h.narrow in
+    record {
+      row = accepted (rows_of ls).row h.row_ok;
+      timer = timer_arms (tables_of ls).timer (rows_of ls).timer h.timer_ok;
+      few = omega arith;
+    }
+
+-- in a program that lines say the arms of each `both` are silent and apart
+pub accepted_apart : (lines : List Line) (end : SectionEnd) (p : Program) → program_of lines end ≡ Accepted p → AreApart p
+accepted_apart = program_holds AreApart clean_apart
 
 -- a section that did not end says no program
 

@@ -8,7 +8,7 @@ ghost use Rattle.ax_text.specs.Valid.{IsValid};
 ghost use Rattle.ax_lang.specs.declared.program.Program.{Program as AnyProgram};
 ghost use Rattle.ax_syntax.specs.Shapes.{Shape as LineShape};
 ghost use Rattle.ax_lang.specs.Blocks.{CleanLinesHold};
-ghost use Rattle.ax_lang.specs.Laws.{HasTree};
+ghost use Rattle.ax_lang.specs.Laws.{AreApart, HasTree};
 ghost use Rattle.ax_lang.specs.Programs.{Accepted, program_of};
 ghost use Rattle.ax_lang.specs.Shown.{shown_program};
 ghost use Rattle.ax_rules.specs.declared.section.SectionEnd.{SectionEnd};
@@ -36,6 +36,11 @@ pub fn program_is_accepted()
 /// Every program that lines say, as `read_program` reads them, is valid.
 pub fn accepted_program_is_valid()
     ensures { (lines : List Line) (end : SectionEnd) (p : Program) → program_of lines end ≡ Accepted p → IsValid p }
+{}
+
+/// In every program that lines say, as `read_program` reads them, the arms of each `both` are silent and apart, and at most 16 requests may be out at once.
+pub fn accepted_program_is_apart()
+    ensures { (lines : List Line) (end : SectionEnd) (p : Program) → program_of lines end ≡ Accepted p → AreApart p }
 {}
 
 /// The rows of lines without fault close each block, keep the rule of arms, and are as wide as the tables say.
