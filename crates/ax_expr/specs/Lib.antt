@@ -4,3 +4,4 @@ pub mod Scopes
 pub mod Reading
 pub mod Balance
 pub mod Spelling
+pub mod Grammar

@@ -1,4 +1,4 @@
--- How the grammar spells an expression: a comparison joins sums, a sum products, a product atoms, all to the left.
+-- The least spelling of an expression: parentheses stand only where the grammar needs them.
 use Rattle.std.specs.Prelude.{◌≡◌, ℕ, ◌+◌, List, [], ◌∷◌, ◌++◌, Bool, Some, nat_le, if◌then◌else◌}
 use Rattle.ax_expr.specs.declared.tree.Token.{Token}
 use Rattle.ax_expr.specs.declared.tree.Token.TheVariants.{Operand, Open, Close, Sign}

@@ -8,7 +8,10 @@ pub mod read;
 pub mod tree;
 pub mod value;
 
-pub use laws::{refusal_law, spelling_law, tree_law};
+pub use laws::{
+    balance_law, grammar_is_read, one_tree, read_is_grammatical, refusal_law, spelling_law,
+    tree_law,
+};
 pub use read::{Refusal, read_expr};
 pub use tree::{Expr, Token};
 pub use value::Scope;
