@@ -152,6 +152,7 @@ unfinished_from before [] end f = not_ended before end f
 unfinished_from before (l ∷ ls) end f = cases (fault_at before (shape_in l)) (unfinished_from (with_line (shape_in l) before) ls end f) where
   more : List Shape
   more = with_line (shape_in l) before
+
   cases : (o : Option FaultKind) → IsFaulty (said_by (shapes_from more ls) (read_from more ls end)) → IsFaulty (said_by (shapes_from more ls) (or_fault o l.number (read_from more ls end)))
   cases None go = go
   cases (Some kind) go = tt

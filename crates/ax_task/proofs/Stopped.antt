@@ -1,5 +1,5 @@
 -- What was taken and written where a run stops for a fault of its source or its sink, or for want of memory.
-use Rattle.std.proofs.Common.{◌≡◌, ℕ, ◌+◌, inl, inr, List, [], ◌∷◌, ◌++◌, Bool, true, false, cond, ◌&&◌, Option, Some, None, Ok, Err, refl, sym, ap, ◌∙◌, append_assoc, subst}
+use Rattle.std.proofs.Common.{◌≡◌, ℕ, ◌+◌, inl, inr, List, [], ◌∷◌, ◌++◌, Bool, true, false, Option, Some, None, Ok, Err, refl, sym, ap, ◌∙◌, append_assoc, subst}
 use Rattle.std.proofs.lemmas.List.{append-nil}
 use Rattle.ax_base.specs.Outside.{Told}
 use Rattle.ax_base.specs.Lines.{no_feed}
@@ -14,9 +14,10 @@ use Rattle.ax_machine.specs.Sync.{sync}
 use Rattle.ax_machine.proofs.FrontLemmas.{lawful_so_far_front}
 use Rattle.ax_machine.proofs.StepLemmas.{lawful_for_more}
 use Rattle.ax_lang.specs.declared.program.Program.{Program as CodeProgram}
-use Rattle.ax_lang.specs.declared.reader.SectionEnd.{SectionEnd}
-use Rattle.ax_lang.specs.Programs.{Reading, Faulty, Accepted, or_fault, fault_in, shape_in, tables_of, rows_of, is_whole, program_in, ended, read_from, program_of, IsProgram}
+use Rattle.ax_rules.specs.declared.section.SectionEnd.{SectionEnd}
+use Rattle.ax_lang.specs.Programs.{Reading, Faulty, Accepted, program_of, IsProgram}
 use Rattle.ax_lang.specs.Shown.{shown_program}
+use Rattle.ax_lang.proofs.AcceptedLemmas.{IsFaulty, unfinished}
 use Rattle.ax_task.specs.Sections as section
 use Rattle.ax_task.specs.Sections.{Section, Gathered, section_of, IsUnfinished}
 use Rattle.ax_task.specs.Parse.{Stream, Clean, ends, Parsed, BadProgram, Runs, of_reading, of_section, behind, first_last, most_bytes, section_in, parse}
@@ -66,28 +67,6 @@ module _ (m : ℕ) (serial : Bool) where
   pub stop_start : (l h : Option (List ℕ)) → Told l l (λ a b. Stops m serial (holds h h) a b end.NoMemory)
   stop_start None h = tt
   stop_start (Some a) h = stop_taken a a [] h refl
-
--- a section that did not end is no program
-abbrev IsFaulty : Reading → Type 0
-IsFaulty (Faulty line kind) = Unit {0}
-IsFaulty (Accepted p) = ⊥
-
-not_ended : (b found : Bool) (p : Program) (line : ℕ) → found ≡ false → IsFaulty (cond (b && found) (Accepted p) (Faulty line 10))
-not_ended true found p line f = let P : Bool → Type 0 = λ t. IsFaulty (cond t (Accepted p) (Faulty line 10)) in subst P (sym f) tt
-not_ended false found p line f = tt
-
-fault_or : (o : Option ℕ) (line : ℕ) (go : Reading) → IsFaulty go → IsFaulty (or_fault o line go)
-fault_or None line go h = h
-fault_or (Some kind) line go h = tt
-
-unfinished_from : (before lines : List Line) (e : SectionEnd) → e.found ≡ false → IsFaulty (read_from before lines e)
-unfolding read_from ended
-unfinished_from before [] e f = not_ended (is_whole (tables_of before)) e.found (program_in (tables_of before) (rows_of before)) e.line f
-unfinished_from before (l ∷ ls) e f = fault_or (fault_in (tables_of before) (shape_in l)) l.number (read_from (before ++ l ∷ []) ls e) (unfinished_from (before ++ l ∷ []) ls e f)
-
-unfinished : (lines : List Line) (e : SectionEnd) → e.found ≡ false → IsFaulty (program_of lines e)
-unfolding program_of
-unfinished lines e f = unfinished_from [] lines e f
 
 abbrev fresh : Reader
 fresh = record { held = []; limit = most_bytes; number = 0; failed = false }

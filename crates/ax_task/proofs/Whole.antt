@@ -10,7 +10,7 @@ use Rattle.ax_base.specs.declared.outside.SinkFault.{SinkFault}
 use Rattle.ax_base.specs.declared.outside.SinkFault.TheVariants as sink
 use Rattle.ax_input.specs.declared.event.Event.{Event as CodeEvent}
 use Rattle.ax_lang.specs.declared.program.Program.{Program as CodeProgram}
-use Rattle.ax_lang.specs.declared.reader.SectionEnd.{SectionEnd}
+use Rattle.ax_rules.specs.declared.section.SectionEnd.{SectionEnd}
 use Rattle.ax_lang.specs.Programs.{Reading, Faulty, Accepted, program_of, IsProgram}
 use Rattle.ax_lang.specs.Shown.{shown_program}
 use Rattle.ax_task.specs.Sections.{Section, Gathered, section_of}
