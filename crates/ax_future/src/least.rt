@@ -22,7 +22,7 @@ fn lesser<'a>(
     one: Option<(u8, &'a Request)>,
     two: Option<(u8, &'a Request)>,
 ) -> Option<(u8, &'a Request)>
-    ensures { IsLesser one two result }
+    ensures { IsLesser one.entry two.entry result }
 {
     match (one, two) {
         (None, two) => two,
