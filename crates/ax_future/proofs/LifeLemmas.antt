@@ -1,16 +1,16 @@
 -- A machine comes to what the run of its handler comes to.
-use Rattle.std.proofs.Common.{◌≡◌, ◌∙◌, ℕ, [], ◌∷◌, true, Option, Some, None, refl, sym, ap, subst}
+use Rattle.std.proofs.Common.{◌≡◌, ◌∙◌, ℕ, [], None, refl, sym, ap, subst}
 use Rattle.ax_text.specs.declared.vocabulary.Handler.{Handler}
 use Rattle.ax_text.specs.declared.vocabulary.Request.{Request}
 use Rattle.ax_text.specs.declared.vocabulary.Answer.{Answer}
 use Rattle.ax_text.specs.Functions.{upd}
-use Rattle.ax_text.specs.Exprs.{Facts}
+use Rattle.ax_text.specs.Exprs.{Facts, Names}
 use Rattle.ax_text.specs.Cells.{Cells}
-use Rattle.ax_text.specs.Run.{begun}
-use Rattle.ax_text.specs.Silent.{silent, told_in, given_silently}
-use Rattle.ax_text.specs.Controls.{Turn, Going, Serve, Give, is_done, give, started, serve_at, request_at, step, comes_to}
+use Rattle.ax_text.specs.Run.{Talk, begun}
+use Rattle.ax_text.specs.Silent.{silent, told_in}
+use Rattle.ax_text.specs.Controls.{Control, Turn, Going, Serve, Give, is_done, give, started, request_at, step, comes_to}
 use Rattle.ax_text.specs.Underway.{IsUnderway}
-use Rattle.ax_text.proofs.Going.{start_underway, steps_ok, comes_to_run}
+use Rattle.ax_text.proofs.Going.{start_underway, step_underway, comes_to_run, serves_at, gives_at}
 use Rattle.ax_text.proofs.Steps.{done_left}
 use Rattle.ax_text.proofs.Telling.{steps_silently}
 use Rattle.ax_lang.specs.declared.program.Program.{Program}
@@ -19,16 +19,6 @@ use Rattle.ax_future.specs.declared.callback.Turn.{Turn as CodeTurn}
 use Rattle.ax_future.specs.Machines.{control_of, names_of, left_by}
 use Rattle.ax_future.specs.Lives.{text_of, begun_by, moved_by, StandsFor, Starts, Serves, Moves, Ends}
 use Rattle.ax_future.proofs.MachineLemmas.{handler_accepted}
-
-serve_control : (s : ℕ) (q : Option Request) (a : Option Answer) (g : Going) → (serve_at s q a g).control ≡ g.control
-serve_control s None a g = refl
-serve_control s (Some r) None g = refl
-serve_control s (Some r) (Some a) g = refl
-
-serve_names : (s : ℕ) (q : Option Request) (a : Option Answer) (g : Going) → (serve_at s q a g).world.talk.names ≡ g.world.talk.names
-serve_names s None a g = refl
-serve_names s (Some r) None g = refl
-serve_names s (Some r) (Some a) g = refl
 
 module _ (p : Program) (h : Handler) (f : Facts) (cells : Cells) where
   pub starts : (m : Machine) (t : CodeTurn) → Starts p h f cells m t
@@ -42,28 +32,26 @@ module _ (p : Program) (h : Handler) (f : Facts) (cells : Cells) where
       here : started f (text_of p h) (begun cells) ≡ begun_by p cells m t
       here = ap (λ (it : Turn). record { control = it.control; answers = λ s. None; world = record { talk = it.talk; cells = cells; served = 0 } }) q
 
-  pub serves : (m : Machine) (g : Going) (s : ℕ) → Serves p h f cells m g s
-  serves m g s k =
-      let e = steps_ok f (Serve s ∷ []) g k.underway in
+  pub serves : (m : Machine) (g : Going) (s : ℕ) (r : Request) → Serves p h f cells m g s r
+  serves m g s r k e n =
+      let one = serves_at f g s r k.underway (sym (ap (λ (c : Control). request_at c s) k.control) ∙ e) n in
       record {
-        control = k.control ∙ sym (serve_control s (request_at g.control s) (g.answers s) g);
-        names = k.names ∙ sym (serve_names s (request_at g.control s) (g.answers s) g);
-        underway = e.0;
-        same = e.1 ∙ k.same;
+        control = k.control ∙ sym one.control;
+        names = k.names ∙ sym (ap (λ (t : Talk). t.names) one.talk);
+        underway = step_underway f (Serve s) g k.underway;
+        same = one.same ∙ k.same;
       }
 
   pub moves : (m : Machine) (g : Going) (s : ℕ) (a : Answer) (m' : Machine) (t : CodeTurn) → Moves p h f cells m g s a m' t
   moves m g s a m' t k n q = record {
     control = refl;
     names = refl;
-    underway = subst IsUnderway here kept.0;
-    same = sym (ap (comes_to f) here) ∙ (kept.1 ∙ k.same);
+    underway = subst IsUnderway here (step_underway f (Give s) g k.underway);
+    same = sym (ap (comes_to f) here) ∙ ((gives_at f g s a k.underway n).same ∙ k.same);
   }
     where
-      kept = steps_ok f (Give s ∷ []) g k.underway
-
       gave : give f g.control s a (silent g.world.talk.names) ≡ left_by p m' t
-      gave = sym (ap (λ c. give f c s a (silent g.world.talk.names)) k.control) ∙ (sym (ap (λ ns. give f (control_of p m) s a (silent ns)) k.names) ∙ q)
+      gave = sym (ap (λ (c : Control). give f c s a (silent g.world.talk.names)) k.control) ∙ (sym (ap (λ (ns : Names). give f (control_of p m) s a (silent ns)) k.names) ∙ q)
 
       here : step f (Give s) g ≡ moved_by p s g m' t
       here = steps_silently f s a g n ∙ ap (λ (it : Turn). record { control = it.control; answers = upd g.answers s None; world = told_in g.world it.talk }) gave

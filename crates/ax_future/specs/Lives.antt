@@ -2,6 +2,7 @@
 use Rattle.std.specs.Prelude.{◌≡◌, ℕ, pos, [], ◌∷◌, ◌++◌, true, Some, None}
 use Rattle.ax_text.specs.declared.vocabulary.Handler.{Handler}
 use Rattle.ax_text.specs.declared.vocabulary.Answer.{Answer}
+use Rattle.ax_text.specs.declared.vocabulary.Request.{Request}
 use Rattle.ax_text.specs.Functions.{upd}
 use Rattle.ax_text.specs.Exprs.{Facts}
 use Rattle.ax_text.specs.Cells.{Cells}
@@ -9,7 +10,7 @@ use Rattle.ax_text.specs.Texts.{Text}
 use Rattle.ax_text.specs.Jobs.{text_for}
 use Rattle.ax_text.specs.Run.{run, begun}
 use Rattle.ax_text.specs.Silent.{silent}
-use Rattle.ax_text.specs.Controls.{Rest, Going, Serve, is_done, begin, give, step, comes_to}
+use Rattle.ax_text.specs.Controls.{Rest, Going, Serve, is_done, request_at, begin, give, step, comes_to}
 use Rattle.ax_text.specs.Underway.{IsUnderway}
 use Rattle.ax_lang.specs.declared.program.Program.{Program}
 use Rattle.ax_lang.specs.Shown.{shown_program}
@@ -53,8 +54,8 @@ abbrev pub Starts : Program → Handler → Facts → Cells → Machine → Turn
 Starts p h f cells m t = begin f (Rest (text_of p h) ∷ []) [] (silent (λ i. pos 0)) ≡ left_by p m t → StandsFor p h f cells m (begun_by p cells m t)
 
 -- when a request of it is served
-abbrev pub Serves : Program → Handler → Facts → Cells → Machine → Going → ℕ → Type 0
-Serves p h f cells m g s = StandsFor p h f cells m g → StandsFor p h f cells m (step f (Serve s) g)
+abbrev pub Serves : Program → Handler → Facts → Cells → Machine → Going → ℕ → Request → Type 0
+Serves p h f cells m g s r = StandsFor p h f cells m g → request_at (control_of p m) s ≡ Some r → g.answers s ≡ None → StandsFor p h f cells m (step f (Serve s) g)
 
 -- and when an answer that was served is given to it
 abbrev pub Moves : Program → Handler → Facts → Cells → Machine → Going → ℕ → Answer → Machine → Turn → Type 0

@@ -15,8 +15,8 @@ use crate::going::{Going, assign};
 use crate::moves::put;
 use crate::node::{Assign, Cursor, Frame, Next, Node};
 use crate::nodes::arms;
-use ax_lang::Program;
 use ax_base::{NoMemory, Pair, Pairs};
+use ax_lang::Program;
 use ax_text::Answer;
 use std::alloc::Global;
 

@@ -8,14 +8,14 @@ ghost use Rattle.ax_future.specs.Nodes.{cursor_in, next_in, control_in, highest}
 ghost use Rattle.ax_future.specs.Talks.{facts_in, talk_of, asks_in};
 ghost use Rattle.ax_future.specs.Moves.{turn_of};
 
-use crate::fresh::least_free;
 use crate::callback::{Ask, Facts};
+use crate::fresh::least_free;
 use crate::going::Going;
 use crate::moves::{Move, advance, put};
 use crate::node::{Cursor, Frame, Next, Node};
 use crate::nodes::{arms, asking, compose};
-use ax_lang::Program;
 use ax_base::{Duplicate, NoMemory};
+use ax_lang::Program;
 use ax_text::Request;
 use std::alloc::Global;
 

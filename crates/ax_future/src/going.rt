@@ -15,7 +15,6 @@ use ax_base::{NoMemory, Nums, Pair};
 use ax_expr::{Expr, Scope};
 use ax_lang::{Loop, Stmt};
 use ax_text::{Request, TimerOp};
-
 use std::alloc::Global;
 
 /// The local names' numbers, and what was said since the callback began.

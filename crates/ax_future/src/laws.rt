@@ -19,7 +19,7 @@ ghost use Rattle.ax_future.specs.Lives.{Starts, Serves, Moves, Ends};
 /// Whatever the order in which a machine's requests are served and its answers given, what was done and what it has left to do come together to the run of its handler; where it is done, what was done is the run.
 pub fn machines_come_to_the_run()
     ensures start { (p : AnyProgram) (h : AnyHandler) (f : AnyFacts) (cells : Cells) (m : AnyMachine) (t : AnyTurn) → Starts p h f cells m t }
-    ensures serve { (p : AnyProgram) (h : AnyHandler) (f : AnyFacts) (cells : Cells) (m : AnyMachine) (g : Going) (s : ℕ) → Serves p h f cells m g s }
+    ensures serve { (p : AnyProgram) (h : AnyHandler) (f : AnyFacts) (cells : Cells) (m : AnyMachine) (g : Going) (s : ℕ) (r : AnyRequest) → Serves p h f cells m g s r }
     ensures give { (p : AnyProgram) (h : AnyHandler) (f : AnyFacts) (cells : Cells) (m : AnyMachine) (g : Going) (s : ℕ) (a : AnyAnswer) (n : AnyMachine) (t : AnyTurn) → Moves p h f cells m g s a n t }
     ensures done { (p : AnyProgram) (h : AnyHandler) (f : AnyFacts) (cells : Cells) (m : AnyMachine) (g : Going) → Ends p h f cells m g }
 {}

@@ -14,9 +14,9 @@ ghost use Rattle.ax_future.specs.Moves.{IsPlain, Moves, above};
 use crate::callback::Facts;
 use crate::going::Going;
 use crate::node::{Cursor, Frame, Next};
-use ax_lang::{Loop, Program, Step, Stmt};
 use ax_base::{NoMemory, Pair, Pairs};
 use ax_expr::Expr;
+use ax_lang::{Loop, Program, Step, Stmt};
 use ax_text::Request;
 use std::alloc::Global;
 

@@ -1,13 +1,15 @@
 //! Where a handler stands.
-use ax_lang::Loop;
 use ax_base::Pairs;
+use ax_lang::Loop;
 use ax_text::Request;
 
 /// What is still to be run: the steps from a place on, or the turns that are left of an `each`.
 #[derive(Drop)]
 pub enum Frame {
     /// The steps from a place of the program on.
-    Rest { place: usize },
+    Rest {
+        place: usize,
+    },
     /// The turns of an `each` from the one numbered `at` on, each of which runs the steps from `body` on.
     Turns {
         turn: Loop,

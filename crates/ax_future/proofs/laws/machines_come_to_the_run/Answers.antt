@@ -5,7 +5,7 @@ pub returns-clause-start : goal.returns-clause-start
 returns-clause-start c p h f cells m t = starts p h f cells m t
 
 pub returns-clause-serve : goal.returns-clause-serve
-returns-clause-serve c p h f cells m g s = serves p h f cells m g s
+returns-clause-serve c p h f cells m g s r = serves p h f cells m g s r
 
 pub returns-clause-give : goal.returns-clause-give
 returns-clause-give c p h f cells m g s a n t = moves p h f cells m g s a n t

@@ -1,4 +1,4 @@
-use Rattle.std.proofs.Common.{[], pos, refl, ap}
+use Rattle.std.proofs.Common.{◌∙◌, [], pos, refl, ap}
 use Rattle.ax_text.specs.Jobs.{text_for}
 use Rattle.ax_text.specs.Silent.{silent}
 use Rattle.ax_lang.specs.Shown.{shown_program, text_from}
@@ -6,6 +6,7 @@ use Rattle.ax_text.proofs.LeastSlots.{takes_rise}
 use Rattle.ax_future.specs.Nodes.{cursor_in}
 use Rattle.ax_future.specs.Talks.{facts_in, talk_of, asks_in}
 use Rattle.ax_future.specs.Moves.{turn_of}
+use Rattle.ax_future.proofs.TalkLemmas.{no_names}
 use Rattle.ax_future.proofs.MachineLemmas.{start_room, start_turn, start_sound, start_asks, start_least}
 use Rattle.ax_future.proofs.machine.Machine.start.Goals as goal
 
@@ -19,7 +20,7 @@ returns-clause-turn c =
     let p = c.args.program.now in
     start_turn (facts_in c.args.facts.now) [] (talk_of c.silent-going.result) (asks_in c.silent-going.result.asks) (turn_of p c.begin.new.going c.in_ok-node.node)
     (cursor_in p c.in_ok-cursor.cursor.items) (text_from p c.place_of.result) (text_for (shown_program p) c.args.handler) (λ i. pos 0)
-    (c.in_ok-cursor.ensures.cursor p) c.place_of.ensures refl (ap (λ g. asks_in g.asks) c.silent-going.ensures) ? c.in_ok-node.ensures
+    (c.in_ok-cursor.ensures.cursor p) c.place_of.ensures refl (ap (λ g. asks_in g.asks) c.silent-going.ensures) (ap talk_of c.silent-going.ensures ∙ ap silent (no_names c.new.result.items c.new.ensures.items)) c.in_ok-node.ensures
 
 pub returns-clause-sound : goal.returns-clause-sound
 returns-clause-sound c =
