@@ -1,14 +1,13 @@
 -- The request that waits at the least slot.
-use Rattle.std.proofs.Common.{◌≡◌, ◌∙◌, ◌≤◌, ◌<◌, ◌⊎◌, inl, inr, ⊎_elim, ℕ, List, [], ◌∷◌, ◌++◌, true, false, nat_eq, Option, Some, None, refl, sym, ap, ap₂, subst, arith}
+use Rattle.std.proofs.Common.{◌≡◌, ◌∙◌, ◌≤◌, ◌<◌, ⊎_elim, ℕ, List, [], ◌++◌, true, false, nat_eq, Option, Some, None, refl, sym, ap, ap₂, subst, arith}
 use Rattle.std.proofs.lemmas.Bool.{both_ways, eqb-true, eq-eqb}
-use Rattle.std.specs.Borrow.{Bor}
 use Rattle.ax_text.specs.declared.vocabulary.Kind.{Kind}
 use Rattle.ax_text.specs.declared.vocabulary.Request.{Request}
 use Rattle.ax_text.specs.Prints.{has}
-use Rattle.ax_text.specs.Controls.{Cursor, Next, Control, Done, Wait, Arms, slots, request_at}
-use Rattle.ax_text.specs.Sound.{Split, IsWakeful, IsSound}
+use Rattle.ax_text.specs.Controls.{Cursor, Next, Control, Wait, Arms, slots, request_at}
+use Rattle.ax_text.specs.Sound.{Split, IsSound}
 use Rattle.ax_text.proofs.Keeps.{by_cases}
-use Rattle.ax_text.proofs.Steps.{mem_either, mem_one, mem_two}
+use Rattle.ax_text.proofs.Steps.{mem_either}
 use Rattle.ax_text.proofs.Wakeful.{slot_waits, none_waits}
 use Rattle.ax_future.specs.Least.{IsLeast, Waiting, HasLeast, IsLesser, IsLeastWaiting}
 

@@ -16,8 +16,8 @@ use Rattle.ax_text.proofs.Telling.{steps_silently}
 use Rattle.ax_lang.specs.declared.program.Program.{Program}
 use Rattle.ax_future.specs.declared.machine.Machine.{Machine}
 use Rattle.ax_future.specs.declared.callback.Turn.{Turn as CodeTurn}
-use Rattle.ax_future.specs.Machines.{control_of, names_of, left_by}
-use Rattle.ax_future.specs.Lives.{text_of, begun_by, moved_by, StandsFor, Starts, Serves, Moves, Ends}
+use Rattle.ax_future.specs.Machines.{control_of, left_by}
+use Rattle.ax_future.specs.Lives.{text_of, begun_by, moved_by, Starts, Serves, Moves, Ends}
 use Rattle.ax_future.proofs.MachineLemmas.{handler_accepted}
 
 module _ (p : Program) (h : Handler) (f : Facts) (cells : Cells) where

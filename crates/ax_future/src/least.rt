@@ -22,17 +22,11 @@ fn lesser<'a>(
     one: Option<(u8, &'a Request)>,
     two: Option<(u8, &'a Request)>,
 ) -> Option<(u8, &'a Request)>
-    ensures { IsLesser one two result }
+    ensures { IsLesser one.entry two.entry result }
 {
     match (one, two) {
         (None, two) => two,
         (Some(one), None) => Some(one),
-        (Some(one), Some(two)) => {
-            if two.0 < one.0 {
-                Some(two)
-            } else {
-                Some(one)
-            }
-        }
+        (Some(one), Some(two)) => { if two.0 < one.0 { Some(two) } else { Some(one) } }
     }
 }

@@ -151,7 +151,6 @@ impl Machine {
     }
 
     /// The request that waits at the least slot, with the slot. `None` exactly where it is done.
-    #[tactic(auto, using(crate::proofs::LeastLemmas::sound_least))]
     pub fn least_waiting(&self) -> Option<(u8, &Request)>
         ensures { (p : AnyProgram) → IsSound p self.now → IsLeastWaiting (control_of p self.now) result }
     {
