@@ -13,7 +13,7 @@ ghost use Rattle.ax_future.specs.Talks.{facts_in};
 ghost use Rattle.ax_future.specs.Machines.{IsSound};
 ghost use Rattle.ax_plain.specs.Handler.{shown_run_facts, run_from, TakesTurn, LeavesOthers};
 
-use ax_base::{NoMemory, Nums, Sink, SinkFault, write_all};
+use ax_base::{Duplicate, NoMemory, Nums, Sink, SinkFault, write_all};
 use ax_future::{Facts, Handler, Machine, TimerOp, Turn};
 use ax_keys::Key;
 use ax_lang::Program;
