@@ -83,7 +83,9 @@ input 0;state a value;state b value;on row;x = get b or 0;put a x;put b x;emit x
 input 1;on row;emit wm;timer time + v1;untimer wm - 1;end|0 0
 input 1;on row;end;on timer;end|0 0
 input 1;on row;timer wm;end;on timer;emit wm , time;end|0 0
-input 1;state s value;on row;x = get s or v1;end;on timer;x = get s or 0;put s x + 1;untimer x;timer time + wm;end|0 0";
+input 1;state s value;on row;x = get s or v1;end;on timer;x = get s or 0;put s x + 1;untimer x;timer time + wm;end|0 0
+input 1;state s list;state t map;on row;emit ( 1 + v1 ) * 2 , 1 < 2;timer time * 2;untimer ( time );end;on timer;let x = 1;end|0 0
+input 1;state s list;state t map;on row;if v1;each x in s;add s x;end;else;both;y = has t 1;with;let z = 2;end;end;clear t;end|0 0";
 
 const MISPLACED: &str = "\
 ;|1 1
@@ -131,28 +133,6 @@ input 1;state wm value|2 1
 input 1;state v1 value|2 1
 input 1;state s number|2 1";
 
-const UNBUILT: &str = "\
-input 1;state s list|2 13
-input 1;state s map|2 13
-input 1;state s value;state s list|3 13
-input 1;on row;emit 1 * 2|3 13
-input 1;on row;emit 1 < 2|3 13
-input 1;on row;emit ( 1 )|3 13
-input 1;on row;emit x * 2|3 13
-input 1;state s value;on row;emit s * 2|4 13
-input 1;on row;timer time * 2|3 13
-input 1;on row;untimer ( time )|3 13
-input 1;on row;end;on timer;emit v1 * 2|5 13
-input 1;on row;end;on timer;let x = 1|5 13
-input 1;on row;let x = 1|3 13
-input 1;on row;if 1|3 13
-input 1;on row;both|3 13
-input 1;on row;clear s|3 13
-input 1;on row;each x in s|3 13
-input 1;on row;x = has s 1|3 13
-input 1;on row;x = get s 1 or 2|3 13
-input 1;state s value;on row;put s 1 , 2|4 13";
-
 const TWICE: &str = "\
 input 1;input 1|2 3
 input 1;state s value;state s value|3 3
@@ -160,7 +140,8 @@ input 1;on row;end;on row|4 3
 input 1;on row;end;input 2|4 3
 input 1;on row;end;on timer;end;on timer|6 3
 input 1;on row;end;on timer;end;on row|6 3
-input 1;on row;end;on timer;end;input 2|6 3";
+input 1;on row;end;on timer;end;input 2|6 3
+input 1;state s value;state s list|3 3";
 
 const UNKNOWN: &str = "\
 input 1;on row;emit x|3 2
@@ -181,7 +162,13 @@ input 16;on row;emit v1;end;on timer;timer time + v16|6 2
 input 0;on row;end;on timer;untimer v1|5 2
 input 1;state s value;on row;end;on timer;x = get s or v1|6 2
 input 1;state s value;on row;x = get s or 0;end;on timer;emit x|7 2
-input 1;on row;emit x;emit 1 * 2;on row|3 2";
+input 1;on row;emit x;emit 1 * 2;on row|3 2
+input 1;on row;emit x * 2|3 2
+input 1;on row;end;on timer;emit v1 * 2|5 2
+input 1;on row;clear s|3 2
+input 1;on row;each x in s|3 2
+input 1;on row;x = has s 1|3 2
+input 1;on row;x = get s 1 or 2|3 2";
 
 const WRONG_KIND: &str = "\
 input 1;state s value;on row;emit 1 + s|4 4
@@ -189,14 +176,19 @@ input 1;state s value;on row;s = get s or 0|4 4
 input 1;state s value;on row;x = get s or 0;put x 1|5 4
 input 1;state s value;on row;x = get s or 0;y = get x or 0|5 4
 input 1;state s value;on row;timer s|4 4
-input 1;state s value;on row;end;on timer;untimer time + s|6 4";
+input 1;state s value;on row;end;on timer;untimer time + s|6 4
+input 1;state s value;on row;emit s * 2|4 4
+input 1;state s value;on row;put s 1 , 2|4 4";
 
 const DUE: &str = "\
 |1 10
 input 1|2 10
 input 1;on row;emit 1|4 10
 input 1;on row;end;on timer|5 10
-input 1;on row;end;on timer;emit wm|6 10";
+input 1;on row;end;on timer;emit wm|6 10
+input 1;state s map|3 10
+input 1;on row;if 1|4 10
+input 1;on row;both|4 10";
 
 /// The line and kind that a table names.
 pub fn named(fault: &str) -> (u64, u8) {
@@ -226,7 +218,6 @@ fn first_faults(rt: HostRuntime) {
     let alloc = rt.alloc();
     assert_eq!(rt; first_wrong(alloc, WHOLE), None);
     assert_eq!(rt; first_wrong(alloc, MISPLACED), None);
-    assert_eq!(rt; first_wrong(alloc, UNBUILT), None);
     assert_eq!(rt; first_wrong(alloc, TWICE), None);
     assert_eq!(rt; first_wrong(alloc, UNKNOWN), None);
     assert_eq!(rt; first_wrong(alloc, WRONG_KIND), None);
@@ -320,7 +311,7 @@ fn limits(rt: HostRuntime) {
         (with_states(alloc, 64, "on row"), (0, 0)),
         (with_states(alloc, 64, "state t value"), (66, 8)),
         (with_states(alloc, 64, "state s7 value"), (66, 8)),
-        (with_states(alloc, 64, "state t list"), (66, 13)),
+        (with_states(alloc, 64, "state t list"), (66, 8)),
         (with_states(alloc, 63, "state s7 value"), (65, 3)),
         (with_locals(alloc, 255, "m = get s or 0"), (0, 0)),
         (with_locals(alloc, 256, "m = get s or 0"), (260, 8)),
@@ -333,7 +324,8 @@ fn limits(rt: HostRuntime) {
         (with_numbers(alloc, 128, "s"), (4, 8)),
         (with_numbers(alloc, 127, "x"), (4, 2)),
         (with_numbers(alloc, 127, "s"), (4, 4)),
-        (with_numbers(alloc, 127, "1 * 1"), (4, 13)),
+        (with_numbers(alloc, 127, "1 * 1"), (4, 8)),
+        (with_numbers(alloc, 126, "1 * 1"), (0, 0)),
         (with_statements(alloc, 10000, 0), (0, 0)),
         (with_statements(alloc, 10001, 0), (10003, 8)),
         (with_statements(alloc, 6000, 4000), (0, 0)),
