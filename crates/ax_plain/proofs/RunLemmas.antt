@@ -1,6 +1,6 @@
 -- A handler's run, one turn after another.
-use Rattle.std.proofs.Common.{◌≡◌, ℕ, ℤ, pos, ◌+◌, ◌<◌, List, [], ◌∷◌, ◌++◌, true, length, take, drop, Option, None, Some, Result, Ok, Err, OnOk, OnErr, ◌⊎◌, inl, inr, refl, sym, ap, ap₂, ◌∙◌, subst, arith, append_assoc}
-use Rattle.std.proofs.lemmas.List.{append-nil, take-append-drop, take_at, take_all}
+use Rattle.std.proofs.Common.{◌≡◌, ℕ, ℤ, pos, ◌+◌, ◌<◌, ◌≤◌, List, [], ◌∷◌, ◌++◌, true, length, take, drop, get_or, Option, None, Some, Result, Ok, Err, OnOk, OnErr, ◌⊎◌, inl, inr, refl, sym, ap, ap₂, ◌∙◌, subst, arith, append_assoc}
+use Rattle.std.proofs.lemmas.List.{append-nil, take-append-drop, take_at, take_all, drop_all, at_drop_more}
 use Rattle.std.specs.Io.KnownBytes.{Appends}
 use mathlib.Core.Path.{fun_ext}
 use Rattle.ax_base.proofs.OutsideLemmas.{Appends-none, Appends-more}
@@ -83,10 +83,38 @@ line_then_some a b c key x xs p q = AppendsSome-behind a b c (entry_text (Out ke
 pub line_some : (a b : Option (List ℕ)) (key : Key) (x : List ℤ) (xs : List (List ℤ)) → AppendsSome a b (entry_text (Out key x)) → AppendsSome a b (text_of (says key (x ∷ xs)))
 line_some a b key x xs q = AppendsSome-behind a a b [] (entry_text (Out key x)) (text_of (says key xs)) _ (Appends-none a) q refl
 
+-- what is left of a list begins with the item at its place
+drop_next : {A : Type 0} (xs : List A) (i : ℕ) (x : A) → i < length xs → x ≡ get_or xs i x → drop i xs ≡ x ∷ drop (i + 1) xs
+drop_next xs i x h is = at_drop_more (λ l. l) xs i x h ∙ ap (λ y. y ∷ drop (i + 1) xs) (sym is)
+
+-- the same, where a line of a list was written
+module _ (a b : Option (List ℕ)) (key : Key) (xs : List (List ℤ)) (i : ℕ) (x y : List ℤ) (h : i < length xs) (is : x ≡ get_or xs i x) (e : y ≡ x) where
+  left_is : text_of (says key (y ∷ drop (i + 1) xs)) ≡ text_of (says key (drop i xs))
+  left_is = ap (λ z. text_of (says key (z ∷ drop (i + 1) xs))) e ∙ sym (ap (λ l. text_of (says key l)) (drop_next xs i x h is))
+
+  pub lines_on : (c : Option (List ℕ)) → Appends a b (entry_text (Out key y)) → Appends b c (text_of (says key (drop (i + 1) xs))) → Appends a c (text_of (says key (drop i xs)))
+  lines_on c p q = subst (Appends a c) left_is (line_then a b c key y (drop (i + 1) xs) p q)
+
+  pub lines_on_some : (c : Option (List ℕ)) → Appends a b (entry_text (Out key y)) → AppendsSome b c (text_of (says key (drop (i + 1) xs))) → AppendsSome a c (text_of (says key (drop i xs)))
+  lines_on_some c p q = subst (AppendsSome a c) left_is (line_then_some a b c key y (drop (i + 1) xs) p q)
+
+  pub lines_failed : AppendsSome a b (entry_text (Out key y)) → AppendsSome a b (text_of (says key (drop i xs)))
+  lines_failed q = subst (AppendsSome a b) left_is (line_some a b key y (drop (i + 1) xs) q)
+
 -- a timer was set or taken off, and then the rest was done
 pub op_then : (t t' u : List Timer) (key : Key) (o : TimerOp) (os : List TimerOp) → PutsTimes t t' key (time_after o (times_of t key)) → PutsTimes t' u key (times_after os (times_of t' key))
     → PutsTimes t u key (times_after (o ∷ os) (times_of t key))
 op_then t t' u key o os p q = puts_then t t' u key _ _ p (subst (PutsTimes t' u key) (ap (times_after os) (puts_at t t' key _ p)) q)
+
+-- the same, of an operation of a list
+pub ops_on : (t t' u : List Timer) (key : Key) (os : List TimerOp) (i : ℕ) (d : TimerOp) → i < length os → PutsTimes t t' key (time_after (get_or os i d) (times_of t key))
+    → PutsTimes t' u key (times_after (drop (i + 1) os) (times_of t' key)) → PutsTimes t u key (times_after (drop i os) (times_of t key))
+ops_on t t' u key os i d h p q =
+    subst (λ (l : List TimerOp). PutsTimes t u key (times_after l (times_of t key))) (sym (at_drop_more (λ l. l) os i d h)) (op_then t t' u key (get_or os i d) (drop (i + 1) os) p q)
+
+-- no operation is left
+pub ops_end : (t : List Timer) (key : Key) (os : List TimerOp) (i : ℕ) → length os ≤ i → PutsTimes t t key (times_after (drop i os) (times_of t key))
+ops_end t key os i h = times_same t key (times_after (drop i os) (times_of t key)) (ap (λ (l : List TimerOp). times_after l (times_of t key)) (drop_all i os h))
 
 -- a sink's counts by a call that takes memory of its own
 pub own_counts : {T : Type 0} (a b : Counts) (r : Result T SinkFault) → WriteCounts a b r → OwnCounts a b r
