@@ -95,7 +95,8 @@ fn writes(turn: &Turn, at: usize, line: &[i64]) -> bool {
     }
 }
 
-const TWO_GETS: &str = "input 1; state a value; state b value; on row; both; x = get a or v1; with; y = get b or v1 * 2; end; emit x , y; timer x + y; end";
+const TWO_GETS: &str =
+    "input 1; state a value; state b value; on row; both; x = get a or v1; with; y = get b or v1 * 2; end; emit x , y; timer x + y; end";
 
 // State `a` has 7, and `b` nothing.
 fn answer(slot: u8) -> Answer {
@@ -137,7 +138,8 @@ fn two_gets_in_both_orders(rt: HostRuntime) {
     ends_alike(&rt, alloc, &program, &facts, 1, 0);
 }
 
-const BOTH_AND_EACH: &str = "input 0; state a value; state b list; state c list; on row; both; x = get a or 7; put a x + 1; with; each y in b; add c y * 2; end; end; emit x; end";
+const BOTH_AND_EACH: &str =
+    "input 0; state a value; state b list; state c list; on row; both; x = get a or 7; put a x + 1; with; each y in b; add c y * 2; end; end; emit x; end";
 
 #[test]
 fn an_each_beside_a_get(rt: HostRuntime) {
@@ -149,12 +151,46 @@ fn an_each_beside_a_get(rt: HostRuntime) {
     let one = Request::ValueGet { state: 0 };
     assert!(&rt; asks_two(&turn, &one, &Request::ListGet { state: 1 }));
     let items = nums(&rt, alloc, &[3, 4]);
-    let turn = give(&rt, &program, &facts, &mut machine, 1, Answer::Items { items });
-    assert!(&rt; asks_one(&turn, 1, &Request::ListAdd { state: 2, number: 6 }));
+    let turn = give(
+        &rt,
+        &program,
+        &facts,
+        &mut machine,
+        1,
+        Answer::Items { items },
+    );
+    assert!(&rt;
+        asks_one(
+            &turn,
+            1,
+            &Request::ListAdd {
+                state: 2,
+                number: 6
+            }
+        )
+    );
     let turn = give(&rt, &program, &facts, &mut machine, 0, Answer::Missing);
-    assert!(&rt; asks_one(&turn, 0, &Request::ValuePut { state: 0, number: 8 }));
+    assert!(&rt;
+        asks_one(
+            &turn,
+            0,
+            &Request::ValuePut {
+                state: 0,
+                number: 8
+            }
+        )
+    );
     let turn = give(&rt, &program, &facts, &mut machine, 1, Answer::Done);
-    assert!(&rt; asks_one(&turn, 1, &Request::ListAdd { state: 2, number: 8 }));
+    assert!(&rt;
+        asks_one(
+            &turn,
+            1,
+            &Request::ListAdd {
+                state: 2,
+                number: 8
+            }
+        )
+    );
     let turn = give(&rt, &program, &facts, &mut machine, 1, Answer::Done);
     assert!(&rt; is_silent(&turn) && !machine.is_done() && !machine.waits(1));
     let turn = give(&rt, &program, &facts, &mut machine, 0, Answer::Done);
@@ -174,14 +210,35 @@ fn an_each_in_an_each(rt: HostRuntime) {
     let mut machine = machine;
     assert!(&rt; asks_one(&turn, 0, &Request::ListGet { state: 0 }));
     let items = nums(&rt, alloc, &[1, 2]);
-    let turn = give(&rt, &program, &facts, &mut machine, 0, Answer::Items { items });
+    let turn = give(
+        &rt,
+        &program,
+        &facts,
+        &mut machine,
+        0,
+        Answer::Items { items },
+    );
     assert!(&rt; asks_one(&turn, 0, &Request::ListGet { state: 1 }));
     let items = nums(&rt, alloc, &[8, 9]);
-    let turn = give(&rt, &program, &facts, &mut machine, 0, Answer::Items { items });
+    let turn = give(
+        &rt,
+        &program,
+        &facts,
+        &mut machine,
+        0,
+        Answer::Items { items },
+    );
     assert!(&rt; asks_one(&turn, 0, &Request::ListGet { state: 1 }) && turn.outs.len() == 2);
     assert!(&rt; writes(&turn, 0, &[1, 8]) && writes(&turn, 1, &[1, 9]));
     let items = Nums::new(alloc);
-    let turn = give(&rt, &program, &facts, &mut machine, 0, Answer::Items { items });
+    let turn = give(
+        &rt,
+        &program,
+        &facts,
+        &mut machine,
+        0,
+        Answer::Items { items },
+    );
     assert!(&rt; is_silent(&turn) && machine.is_done());
 }
 
