@@ -16,8 +16,9 @@ pub enum Status {
     /// The program section has this first fault. Nothing was written.
     ///
     /// Lines count from 1. Kinds: 1 a line that has none of the shapes, 2 an unknown name, 3 what
-    /// may stand once stands twice, 4 a name of the wrong kind, 8 too many, 10 no end, 11 a line
-    /// that is too long, 12 too much input, 13 not built yet.
+    /// may stand once stands twice, 4 a name of the wrong kind, 5 two arms in conflict, 6 an arm that
+    /// speaks, 7 too deep, 8 too many, 9 too wide, 10 no end, 11 a line that is too long, 12 too
+    /// much input.
     Program { line: u64, kind: u8 },
     /// This line is the first with a fault among the events. What comes before it is written.
     ///
