@@ -1,0 +1,11 @@
+use Rattle.std.proofs.Common.{rules, ◌≡◌, ◌+◌, ◌<◌, ◌≤◌, length, ℕ, List, [], ◌∷◌, slice_index_or, slice_set, sym, ap, ◌∙◌, arith}
+use Rattle.std.proofs.lemmas.Grind.{common_steps}
+use Rattle.ax_time.proofs.EpochLemmas.{count_at-closed, count_at-current, count_at-past, put_closed-at, put_closed-past}
+use Rattle.ax_time.proofs.epochs.put_count.Goals as goal
+
+pub returns : goal.returns
+returns c =
+    let closed = c.args.closed.now.items in
+    let epoch = c.index_mut.result.now in
+    ap (λ x. slice_set closed c.args.place (record { marker = x.marker; count = c.args.count })) c.index_mut.ensures.value
+    ∙ put_closed-at closed c.args.place c.args.count epoch c.requires
