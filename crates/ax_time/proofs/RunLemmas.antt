@@ -1,10 +1,9 @@
 -- What several calls keep.
 use Rattle.std.proofs.Common.{◌≡◌, ◌+◌, ◌-◌, ◌%◌, ◌^◌, ◌<◌, ◌==◌, Bool, true, false, if◌then◌else◌, ℕ, List, [], ◌∷◌, ◌++◌, length, refl, ap, sym, ◌∙◌, arith}
-use Rattle.std.specs.Prelude.{Option, None, Some}
+use Rattle.std.specs.Prelude.{None, Some}
 use Rattle.std.proofs.lemmas.List.{append-nil, append_assoc, length-append, map_push}
 use Rattle.ax_time.specs.declared.epoch.Closed.{Closed}
-use Rattle.ax_time.specs.declared.epoch.Marker.{Marker}
-use Rattle.ax_time.specs.Epochs.{Book, place_of, count_of, count_at, taken, next_action, markers_of, work_in, work_of}
+use Rattle.ax_time.specs.Epochs.{Book, place_of, count_of, taken, next_action, markers_of, work_in, work_of}
 use Rattle.ax_time.specs.EpochRuns.{Call, Enter, Leave, Close, Take, after, Wants, AllWanted, book_after, action_of, taken_by, actions_taken, given_by, actions_given, entered_by, left_by, entered, left}
 use Rattle.ax_time.proofs.EpochLemmas.{put_markers, put_work, close_work}
 

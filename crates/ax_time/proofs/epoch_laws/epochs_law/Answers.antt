@@ -1,4 +1,4 @@
-use Rattle.std.proofs.Common.{◌≡◌, arith}
+use Rattle.std.proofs.Common.{arith}
 use Rattle.ax_time.specs.Epochs.{fresh}
 use Rattle.ax_time.proofs.RunLemmas.{run_markers, run_oldest, run_work}
 use Rattle.ax_time.proofs.epoch_laws.epochs_law.Goals as goal

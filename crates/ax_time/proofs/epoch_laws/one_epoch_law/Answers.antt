@@ -1,4 +1,4 @@
-use Rattle.std.proofs.Common.{◌≡◌, ap, arith}
+use Rattle.std.proofs.Common.{arith}
 use Rattle.ax_time.specs.Epochs.{place_of}
 use Rattle.ax_time.proofs.EpochLemmas.{own_count, other_count, put_markers, put_length}
 use Rattle.ax_time.proofs.epoch_laws.one_epoch_law.Goals as goal

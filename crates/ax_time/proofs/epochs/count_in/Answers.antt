@@ -1,7 +1,7 @@
-use Rattle.std.proofs.Common.{rules, ◌≡◌, ◌+◌, ◌<◌, ◌≤◌, length, ℕ, List, [], ◌∷◌, slice_index_or, slice_set, sym, ap, ◌∙◌, arith}
+use Rattle.std.proofs.Common.{sym, ap, ◌∙◌, arith}
 use Rattle.std.proofs.lemmas.Grind.{common_steps}
 use Rattle.ax_time.specs.Epochs.{count_at}
-use Rattle.ax_time.proofs.EpochLemmas.{count_at-closed, count_at-current, count_at-past, put_closed-at, put_closed-past}
+use Rattle.ax_time.proofs.EpochLemmas.{count_at-closed, count_at-current, count_at-past}
 use Rattle.ax_time.proofs.epochs.count_in.Goals as goal
 
 pub returns-in-Some : goal.returns-in-Some

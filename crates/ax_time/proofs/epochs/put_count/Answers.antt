@@ -1,6 +1,5 @@
-use Rattle.std.proofs.Common.{rules, ◌≡◌, ◌+◌, ◌<◌, ◌≤◌, length, ℕ, List, [], ◌∷◌, slice_index_or, slice_set, sym, ap, ◌∙◌, arith}
-use Rattle.std.proofs.lemmas.Grind.{common_steps}
-use Rattle.ax_time.proofs.EpochLemmas.{count_at-closed, count_at-current, count_at-past, put_closed-at, put_closed-past}
+use Rattle.std.proofs.Common.{slice_set, ap, ◌∙◌}
+use Rattle.ax_time.proofs.EpochLemmas.{put_closed-at}
 use Rattle.ax_time.proofs.epochs.put_count.Goals as goal
 
 pub returns : goal.returns

@@ -1,7 +1,7 @@
-use Rattle.std.proofs.Common.{rules, ◌≡◌, ◌+◌, ◌<◌, ◌≤◌, length, ℕ, List, [], ◌∷◌, slice_index_or, slice_set, sym, ap, subst, ◌∙◌, arith}
+use Rattle.std.proofs.Common.{◌≡◌, ◌<◌, ◌≤◌, length, sym, ap, subst, ◌∙◌, arith}
 use Rattle.std.proofs.lemmas.Grind.{common_steps}
 use Rattle.ax_time.proofs.EpochLemmas.{with_count-current, with_count-closed}
-use Rattle.ax_time.specs.Epochs.{Book, place_of, put_closed, with_count}
+use Rattle.ax_time.specs.Epochs.{Book, place_of, with_count}
 use Rattle.ax_time.proofs.epochs.Epochs.set_count.Goals as goal
 
 pub returns-then-place-len : goal.returns-then-place-len
