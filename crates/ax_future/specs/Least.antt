@@ -11,7 +11,7 @@ pub record IsLeast (c : Control) (slot : ℕ) (request : Request) : Type 0 where
   pub stands : request_at c slot ≡ Some request
   pub least : (s : ℕ) → has s (slots c) ≡ true → slot ≤ s
 
--- a slot with the request that waits there
+-- a slot with what is asked there
 abbrev pub Waiting : Type 0
 Waiting = ℕ × Bor Request
 

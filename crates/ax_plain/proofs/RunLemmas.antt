@@ -161,7 +161,7 @@ serves_turn n kinds f c s r names cells it h w e =
     ∙ ap (λ (x : Turn). at_once f x.control (world x.talk.names x.talk.lines x.talk.ops (cells_after r cells) 1)) e
     ∙ at_behind f it.control it.talk.names it.talk.lines it.talk.ops (cells_after r cells) 1
 
--- the machine's turn: the request at a slot was served
+-- the machine's turn: what was asked at a slot was served
 pub takes_turn : (f : Facts) (p : Program) (m m' : Machine) (turn : CodeTurn) (s : ℕ) (r : Request) (a : Answer) (cells cells' : Cells)
     → IsSound p m → request_at (control_of p m) s ≡ Some r → a ≡ answer_of r cells → ((i : ℕ) → cells' i ≡ cells_after r cells i)
     → give f (control_of p m) s a (silent (names_of m)) ≡ left_by p m' turn → TakesTurn f p m m' cells cells' (Some turn)

@@ -201,7 +201,7 @@ fn facts_of(alloc: Global, key: &Key, facts: &RunFacts<'_>) -> Result<Facts, NoM
     })
 }
 
-// Answers the request at the least slot that waits, and runs on. There is no turn where nothing waits: then it is done.
+// Answers what the least slot that waits has asked, and runs on. There is no turn where nothing waits: then it is done.
 fn next_turn(
     machine: &mut Machine,
     program: &Program,
@@ -222,7 +222,7 @@ fn next_turn(
     Ok(Some(turn))
 }
 
-/// Runs a handler on the states and timers of the key: the request at the least slot that waits is answered at once, and when a
+/// Runs a handler on the states and timers of the key: what the least slot that waits has asked is answered at once, and when a
 /// turn is over its lines are written and its timers set or taken off.
 ///
 /// Condition: the states have the kinds that the program declares. They keep them, and the timers of other keys stay, also

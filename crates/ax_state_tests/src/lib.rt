@@ -12,6 +12,8 @@ mod cells;
 mod contexts;
 pub mod draws;
 #[cfg(test)]
+mod epochs;
+#[cfg(test)]
 mod kept_timers;
 #[cfg(test)]
 mod mailboxes;

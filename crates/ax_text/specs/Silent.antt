@@ -56,7 +56,7 @@ BeginsAtOnce f text cells =
     is_accepted text ≡ true
     → (let it : Turn = begin f (Rest text ∷ []) [] (silent (λ i. pos 0)) in at_once f it.control (told_in (begun cells) it.talk)) ≡ run f text (begun cells)
 
--- the request of a slot is served and its answer given: what it comes to stays
+-- what a slot asks is served and the answer given: what it comes to stays
 abbrev pub ServesAtOnce : ℕ → List Kind → Facts → Control → ℕ → Request → World → Type 0
 ServesAtOnce n kinds f c s r w =
     IsSound n kinds c → request_at c s ≡ Some r

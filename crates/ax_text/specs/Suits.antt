@@ -35,7 +35,7 @@ unfoldable pub NextSuits : List Kind → Next → Type 0
 NextSuits kinds (Take x) = Unit {0}
 NextSuits kinds (Begin l body) = TextSuits kinds body
 
--- the request that waits, and those that come after it
+-- what waits, and what comes after it
 unfoldable pub Suits : List Kind → Control → Type 0
 Suits kinds Done = Unit {0}
 Suits kinds (Wait s r x k) = (fits_in kinds r ≡ true) × NextSuits kinds x × CursorSuits kinds k

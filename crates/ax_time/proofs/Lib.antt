@@ -1,3 +1,5 @@
 pub mod SetLemmas
 pub mod KeptLemmas
 pub mod DueLemmas
+mod EpochLemmas
+mod RunLemmas

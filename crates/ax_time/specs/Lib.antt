@@ -1,2 +1,4 @@
 pub mod Timers
 pub mod Held
+pub mod Epochs
+pub mod EpochRuns
