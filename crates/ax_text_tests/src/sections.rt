@@ -443,7 +443,8 @@ fn an_empty_timer_handler(rt: HostRuntime) {
 
 #[test]
 fn blocks_as_steps(rt: HostRuntime) {
-    let text = "input 1; state l list; state m map; on row; if v1; add l 1; else; put m 2 , 3; end; each i in l; emit i; end; both; each k n in m; let x = k; end; with; put l 1 , 2; end; emit 9; end";
+    let text =
+        "input 1; state l list; state m map; on row; if v1; add l 1; else; put m 2 , 3; end; each i in l; emit i; end; both; each k n in m; let x = k; end; with; put l 1 , 2; end; emit 9; end";
     let Some(program) = program_of(rt.alloc(), text) else {
         assert!(&rt; false);
         return;
