@@ -12,8 +12,6 @@ mod cells;
 mod contexts;
 pub mod draws;
 #[cfg(test)]
-mod epochs;
-#[cfg(test)]
 mod kept_timers;
 #[cfg(test)]
 mod mailboxes;
