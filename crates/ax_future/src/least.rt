@@ -27,12 +27,6 @@ fn lesser<'a>(
     match (one, two) {
         (None, two) => two,
         (Some(one), None) => Some(one),
-        (Some(one), Some(two)) => {
-            if two.0 < one.0 {
-                Some(two)
-            } else {
-                Some(one)
-            }
-        }
+        (Some(one), Some(two)) => { if two.0 < one.0 { Some(two) } else { Some(one) } }
     }
 }
