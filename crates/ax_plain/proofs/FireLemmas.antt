@@ -1,5 +1,5 @@
 -- The timers that fire at a watermark, one after another.
-use Rattle.std.proofs.Common.{◌≡◌, ℕ, zero, suc, ◌-◌, ◌*◌, ◌≤◌, ℤ, int_le, List, [], ◌∷◌, ◌++◌, Bool, true, false, cond, length, Option, Some, None, IsSome, refl, sym, ap, ap₂, ◌∙◌, subst, append_assoc, append-nil}
+use Rattle.std.proofs.Common.{◌≡◌, ℕ, zero, suc, ◌-◌, ◌*◌, ◌≤◌, ℤ, int_le, List, [], ◌∷◌, ◌++◌, Bool, true, false, cond, length, Option, Some, None, IsSome, refl, sym, ap, ◌∙◌, subst, append_assoc, append-nil}
 use Rattle.std.proofs.lemmas.Map.Made.{is_some-lookup}
 use Rattle.std.specs.Io.KnownBytes.{Appends}
 use Rattle.std.specs.List.{list_any}
