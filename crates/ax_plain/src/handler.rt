@@ -209,7 +209,9 @@ fn refilled(list: Nums, values: &[i64]) -> Result<Nums, NoMemory>
 }
 
 // The key, which is copied only where it differs from the kept one.
-fn key_of(alloc: Global, kept: Key, key: &Key) -> Result<Key, NoMemory> {
+fn key_of(alloc: Global, kept: Key, key: &Key) -> Result<Key, NoMemory>
+    ensures { IfOk result (λ own. own ≡ key.now) }
+{
     if kept == *key {
         Ok(kept)
     } else {
@@ -224,7 +226,8 @@ fn facts_of(
     key: &Key,
     facts: &RunFacts<'_>,
 ) -> Result<Facts, NoMemory>
-    ensures { IfOk result (λ owned. facts_in owned ≡ shown_run_facts facts.now) }
+    ensures facts { IfOk result (λ owned. facts_in owned ≡ shown_run_facts facts.now) }
+    ensures key { IfOk result (λ owned. owned.key ≡ key.now) }
 {
     match kept {
         Some(kept) => Ok(Facts {

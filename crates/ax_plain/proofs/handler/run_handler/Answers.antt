@@ -13,7 +13,7 @@ turns-init g c =
     record {
       gone = start_gone_on c.args.key.now (run_from p c.args.handler c.args.facts.now cells) (g.K.Sink.holds c.args.out.now) c.args.timers.now c.start_into.new.turn.outs c.start_into.new.turn.timer_ops
           (comes_to (facts_in c.in-Ok.known) p c.start_into.new.self cells)
-          (starts_turn (facts_in c.in-Ok.known) p c.args.handler c.start_into.new.self c.start_into.new.turn c.args.facts.now cells c.in-Ok.ensures c.in-Ok-start_into.ensures.turn);
+          (starts_turn (facts_in c.in-Ok.known) p c.args.handler c.start_into.new.self c.start_into.new.turn c.args.facts.now cells c.in-Ok.ensures.facts c.in-Ok-start_into.ensures.turn);
       sound = c.in-Ok-start_into.ensures.sound;
       kinds = c.requires;
       others = λ q e. refl;
