@@ -36,7 +36,10 @@ pub fn begin(
     let mut cursor = cursor;
     loop {
         match advance(alloc, program, facts, &mut cursor, going)? {
-            Move::End => return Ok(Node::Done),
+            Move::End => {
+                going.spare = cursor;
+                return Ok(Node::Done);
+            }
             Move::Go => {}
             Move::Wait { request, next } => return wait(alloc, used, request, next, cursor, going),
             Move::Split { one, two } => {
@@ -75,12 +78,22 @@ fn wait(
     Ok(node)
 }
 
-/// The text from a place on.
-pub fn only(alloc: Global, place: usize) -> Result<Cursor, NoMemory>
+// The text from a place on.
+fn only(alloc: Global, place: usize) -> Result<Cursor, NoMemory>
     ensures cursor { IfOk result (λ cursor. (p : AnyProgram) → cursor_in p cursor.items ≡ Rest (text_from p place) ∷ []) }
     ensures highest { IfOk result (λ cursor. highest cursor.items ≡ place) }
 {
-    let mut cursor = Vec::new(alloc);
+    let cursor = only_in(Vec::new(alloc), place)?;
+    Ok(cursor)
+}
+
+/// The text from a place on, in the memory of a cursor that is no longer needed.
+pub fn only_in(spare: Cursor, place: usize) -> Result<Cursor, NoMemory>
+    ensures cursor { IfOk result (λ cursor. (p : AnyProgram) → cursor_in p cursor.items ≡ Rest (text_from p place) ∷ []) }
+    ensures highest { IfOk result (λ cursor. highest cursor.items ≡ place) }
+{
+    let mut cursor = spare;
+    cursor.clear();
     put(&mut cursor, Frame::Rest { place })?;
     Ok(cursor)
 }

@@ -1,7 +1,10 @@
 //! What a callback knows, and what it leaves.
+ghost use Rattle.std.specs.Prelude.{◌≡◌, []};
+
 use ax_base::{ListOf, Nums};
 use ax_keys::Key;
 use ax_text::{Request, TimerOp};
+use std::alloc::Global;
 
 /// What a handler knows besides the states of its key.
 #[derive(Drop)]
@@ -40,4 +43,17 @@ pub struct Turn {
     pub asks: Asks,
     pub outs: Outs,
     pub timer_ops: TimerOps,
+}
+
+impl Turn {
+    /// A turn that says nothing. It takes no memory before a callback fills it.
+    pub fn new(alloc: Global) -> Turn
+        ensures { result ≡ record { asks = []; outs = []; timer_ops = [] } }
+    {
+        Turn {
+            asks: ListOf::new(alloc),
+            outs: ListOf::new(alloc),
+            timer_ops: ListOf::new(alloc),
+        }
+    }
 }

@@ -10,7 +10,7 @@ ghost use Rattle.ax_future.specs.Nodes.{after_in};
 ghost use Rattle.ax_future.specs.Talks.{names_at, facts_in, talk_of, act_by, question_by, question_in, seen_question};
 
 use crate::callback::{Asks, Facts, Outs, TimerOps};
-use crate::node::Assign;
+use crate::node::{Assign, Cursor};
 use ax_base::{NoMemory, Nums, Pair};
 use ax_expr::{Expr, Scope};
 use ax_lang::{Loop, Stmt};
@@ -24,6 +24,8 @@ pub struct Going {
     pub asks: Asks,
     pub outs: Outs,
     pub timer_ops: TimerOps,
+    /// The memory of a cursor that has ended, for the next handler.
+    pub spare: Cursor,
 }
 
 /// What a statement asks, and what becomes of the answer.

@@ -9,14 +9,15 @@ ghost use Rattle.ax_lang.specs.declared.program.Program.{Program as AnyProgram};
 ghost use Rattle.ax_lang.specs.Shown.{shown_program};
 ghost use Rattle.ax_future.specs.Least.{IsLeastWaiting};
 ghost use Rattle.ax_future.specs.Nodes.{control_in};
+ghost use Rattle.ax_future.specs.Moves.{turn_of};
 ghost use Rattle.ax_future.specs.Talks.{facts_in, asks_in};
 
 use crate::answers::{add_others, give_in, waits_at};
-use crate::begin::{begin, only};
+use crate::begin::{begin, only_in};
 use crate::callback::{Facts, Turn};
 use crate::going::Going;
 use crate::least::least_of;
-use crate::node::Node;
+use crate::node::{Cursor, Node};
 use ax_base::{ListOf, NoMemory};
 use ax_lang::Program;
 use ax_text::{Answer, Handler, Request};
@@ -25,23 +26,45 @@ use std::mem;
 
 /// A handler on its way: where it stands, and the numbers of its local names.
 ///
-/// Each call that takes a program or facts is to be given those that `start` was given.
+/// Each call that takes a program or facts is to be given those that its handler was started with.
 #[derive(Drop)]
 pub struct Machine {
     alloc: Global,
     node: Node,
     names: Vec<i64>,
+    // The memory of a cursor that has ended, for the next handler.
+    spare: Cursor,
 }
 
-// Nothing said yet.
-fn silent(alloc: Global, names: Vec<i64>) -> Going
-    ensures { result ≡ record { names = names; asks = []; outs = []; timer_ops = [] } }
+// An empty list, in the memory of one that is taken.
+fn emptied<T: Drop>(alloc: Global, items: &mut Vec<T>) -> Vec<T>
+    ensures { result.items ≡ [] }
+{
+    let mut taken = mem::replace(items, Vec::new(alloc));
+    taken.clear();
+    taken
+}
+
+// The same of a list that contracts see as one.
+fn emptied_list<T: Drop>(alloc: Global, list: &mut ListOf<T>) -> ListOf<T>
+    ensures { result ≡ [] }
+{
+    let taken = mem::replace(list, ListOf::new(alloc));
+    let mut items = taken.into_vec();
+    items.clear();
+    ListOf::from_vec(items)
+}
+
+// Nothing said yet, in the memory of a turn that is taken.
+fn silent(alloc: Global, names: Vec<i64>, spare: Cursor, turn: &mut Turn) -> Going
+    ensures { result ≡ record { names = names; asks = []; outs = []; timer_ops = []; spare = spare } }
 {
     Going {
         names,
-        asks: ListOf::new(alloc),
-        outs: ListOf::new(alloc),
-        timer_ops: ListOf::new(alloc),
+        asks: emptied_list(alloc, &mut turn.asks),
+        outs: emptied_list(alloc, &mut turn.outs),
+        timer_ops: emptied_list(alloc, &mut turn.timer_ops),
+        spare,
     }
 }
 
@@ -56,6 +79,18 @@ fn others_of(alloc: Global, node: &Node, slot: u8) -> Result<Vec<u8>, NoMemory>
 
 impl Machine {
     ghost use Rattle.ax_future.specs.Machines.{control_of, names_of, left_by, IsSound};
+
+    /// A machine that is done. It takes no memory before a handler starts in it.
+    pub fn new(alloc: Global) -> Machine
+        ensures { (p : AnyProgram) → control_of p result ≡ Done }
+    {
+        Machine {
+            alloc,
+            node: Node::Done,
+            names: Vec::new(alloc),
+            spare: Vec::new(alloc),
+        }
+    }
 
     /// Runs a handler until each live arm waits for an answer or has ended. A handler that the program doesn't have
     /// is done at once. The only fault is `NoMemory`.
@@ -73,28 +108,44 @@ impl Machine {
         ensures least { IfOk result (λ r. TakesLeast [] (asks_in r.1.asks)) }
         ensures rise { IfOk result (λ r. SlotsRise (asks_in r.1.asks)) }
     {
-        let mut going = silent(alloc, Vec::new(alloc));
-        let cursor = only(alloc, program.place_of(handler))?;
+        let mut machine = Machine::new(alloc);
+        let mut turn = Turn::new(alloc);
+        machine.start_into(program, handler, facts, &mut turn)?;
+        Ok((machine, turn))
+    }
+
+    /// Starts a handler, as `start` does, in the memory of this machine and of a turn: wherever the machine stood, that is
+    /// over, and what the turn said is gone. After `NoMemory`, its only fault, the machine waits for nothing.
+    pub fn start_into(
+        &mut self,
+        program: &Program,
+        handler: Handler,
+        facts: &Facts,
+        turn: &mut Turn,
+    ) -> Result<(), NoMemory>
+        ensures turn { OnOk result (begin (facts_in facts.now) (Rest (text_for (shown_program program.now) handler) ∷ []) [] (silent (λ i. pos 0)) ≡ left_by program.now self.new turn.new) }
+        ensures sound { OnOk result (IsSound program.now self.new) }
+        ensures asks { OnOk result (waiting (control_of program.now self.new) ≡ asks_in turn.new.asks) }
+        ensures least { OnOk result (TakesLeast [] (asks_in turn.new.asks)) }
+        ensures rise { OnOk result (SlotsRise (asks_in turn.new.asks)) }
+        ensures stopped { OnErr result (control_of program.now self.new ≡ Done) }
+    {
+        let alloc = self.alloc;
+        self.node = Node::Done;
+        let names = emptied(alloc, &mut self.names);
+        let spare = emptied(alloc, &mut self.spare);
+        let cursor = only_in(spare, program.place_of(handler))?;
+        let mut going = silent(alloc, names, Vec::new(alloc), turn);
         let node = begin(alloc, program, facts, &[], cursor, &mut going)?;
-        let Going {
-            names,
-            asks,
-            outs,
-            timer_ops,
-        } = going;
-        let turn = Turn {
-            asks,
-            outs,
-            timer_ops,
-        };
-        Ok((Machine { alloc, node, names }, turn))
+        self.leave(node, going, turn);
+        Ok(())
     }
 
     /// Gives the answer of a slot, and runs on. What it asks is what waits then and didn't before. It takes time for
     /// the arms that wait and for what it runs, and none for what is behind. After `NoMemory`, its only fault, the
-    /// machine waits for nothing, and may only be dropped.
+    /// machine waits for nothing, and may only be dropped or started anew.
     ///
-    /// Condition: `waits(slot)`, and the machine is sound for the program, as `start` and `resume` leave it.
+    /// Condition: `waits(slot)`, and the machine is sound for the program, as a start and each answer leave it.
     pub fn resume(
         &mut self,
         program: &Program,
@@ -111,27 +162,61 @@ impl Machine {
         ensures rise { IfOk result (λ turn. SlotsRise (asks_in turn.asks)) }
         ensures stopped { OnErr result (control_of program.now self.new ≡ Done) }
     {
+        let mut turn = Turn::new(self.alloc);
+        self.resume_into(program, facts, slot, answer, &mut turn)?;
+        Ok(turn)
+    }
+
+    /// Gives the answer of a slot, and runs on, as `resume` does, in the memory of a turn: what it said is gone.
+    ///
+    /// Condition: that of `resume`.
+    pub fn resume_into(
+        &mut self,
+        program: &Program,
+        facts: &Facts,
+        slot: u8,
+        answer: Answer,
+        turn: &mut Turn,
+    ) -> Result<(), NoMemory>
+        requires sound { IsSound program.now self.old }
+        requires waits { has slot (slots (control_of program.now self.old)) ≡ true }
+        ensures turn { OnOk result (give (facts_in facts.now) (control_of program.now self.old) slot answer (silent (names_of self.old)) ≡ left_by program.now self.new turn.new) }
+        ensures sound { OnOk result (IsSound program.now self.new) }
+        ensures asks { OnOk result (waiting (control_of program.now self.new) ≡ replaced slot (asks_in turn.new.asks) (waiting (control_of program.now self.old))) }
+        ensures least { OnOk result (TakesLeast (without slot (slots (control_of program.now self.old))) (asks_in turn.new.asks)) }
+        ensures rise { OnOk result (SlotsRise (asks_in turn.new.asks)) }
+        ensures stopped { OnErr result (control_of program.now self.new ≡ Done) }
+    {
         let alloc = self.alloc;
         let node = mem::replace(&mut self.node, Node::Done);
         let names = mem::replace(&mut self.names, Vec::new(alloc));
+        let spare = mem::replace(&mut self.spare, Vec::new(alloc));
         let others = others_of(alloc, &node, slot)?;
-        let mut going = silent(alloc, names);
+        let mut going = silent(alloc, names, spare, turn);
         let node = give_in(
             alloc, program, facts, &others, node, slot, answer, &mut going,
         )?;
+        self.leave(node, going, turn);
+        Ok(())
+    }
+
+    // The machine stands at a node, and the turn says what was said.
+    fn leave(&mut self, node: Node, going: Going, turn: &mut Turn)
+        ensures { (p : AnyProgram) → left_by p self.new turn.new ≡ turn_of p going node }
+    {
         let Going {
             names,
             asks,
             outs,
             timer_ops,
+            spare,
         } = going;
         self.node = node;
         self.names = names;
-        Ok(Turn {
-            asks,
-            outs,
-            timer_ops,
-        })
+        self.spare = spare;
+        turn.asks = asks;
+        turn.outs = outs;
+        turn.timer_ops = timer_ops;
     }
 
     /// Whether it is done: exactly where no slot waits.

@@ -1,5 +1,5 @@
 -- A handler's run, one turn after another.
-use Rattle.std.proofs.Common.{◌≡◌, ℕ, ℤ, pos, ◌+◌, ◌<◌, ◌≤◌, List, [], ◌∷◌, ◌++◌, true, length, take, drop, get_or, Option, None, Some, Result, Ok, Err, OnOk, OnErr, inr, refl, sym, ap, ◌∙◌, subst, arith, append_assoc}
+use Rattle.std.proofs.Common.{◌≡◌, ℕ, ℤ, pos, ◌+◌, ◌<◌, ◌≤◌, List, [], ◌∷◌, ◌++◌, true, false, length, take, drop, get_or, Option, Some, Result, Ok, Err, OnOk, OnErr, inr, refl, sym, ap, ◌∙◌, subst, arith, append_assoc}
 use Rattle.std.proofs.lemmas.List.{append-nil, take-append-drop, take_at, take_all, drop_all, at_drop_more}
 use Rattle.std.specs.Io.KnownBytes.{Appends}
 use mathlib.Core.Path.{fun_ext}
@@ -164,15 +164,15 @@ serves_turn n kinds f c s r names cells it h w e =
 -- the machine's turn: what was asked at a slot was served
 pub takes_turn : (f : Facts) (p : Program) (m m' : Machine) (turn : CodeTurn) (s : ℕ) (r : Request) (a : Answer) (cells cells' : Cells)
     → IsSound p m → request_at (control_of p m) s ≡ Some r → a ≡ answer_of r cells → ((i : ℕ) → cells' i ≡ cells_after r cells i)
-    → give f (control_of p m) s a (silent (names_of m)) ≡ left_by p m' turn → TakesTurn f p m m' cells cells' (Some turn)
+    → give f (control_of p m) s a (silent (names_of m)) ≡ left_by p m' turn → TakesTurn f p m m' cells cells' turn true
 takes_turn f p m m' turn s r a cells cells' h w e after g =
     let gave : give f (control_of p m) s (answer_of r cells) (silent (names_of m)) ≡ left_by p m' turn = sym (ap (λ (x : Answer). give f (control_of p m) s x (silent (names_of m))) e) ∙ g in
     serves_turn (program_width (shown_program p)) (shown_kinds p) f (control_of p m) s r (names_of m) cells (left_by p m' turn) h w gave
     ∙ sym (ap (λ (x : Cells). behind turn.outs turn.timer_ops 1 (comes_to f p m' x)) (fun_ext after))
 
 -- the machine is done
-pub takes_none : (f : Facts) (p : Program) (m : Machine) (cells : Cells) → control_of p m ≡ Done → TakesTurn f p m m cells cells None
-takes_none f p m cells e = ap (λ (c : Control). at_once f c (fresh (silent (names_of m)) cells)) e
+pub takes_none : (f : Facts) (p : Program) (m : Machine) (turn : CodeTurn) (cells : Cells) → control_of p m ≡ Done → TakesTurn f p m m cells cells turn false
+takes_none f p m turn cells e = ap (λ (c : Control). at_once f c (fresh (silent (names_of m)) cells)) e
 
 -- a machine started
 pub starts_turn : (f : Facts) (p : Program) (h : Handler) (m : Machine) (turn : CodeTurn) (facts : RunFacts) (cells : Cells)

@@ -1,5 +1,5 @@
 -- The run of a handler, one turn after another.
-use Rattle.std.specs.Prelude.{◌≡◌, ◌+◌, ◌++◌, ℕ, ℤ, false, List, Option, Some, None}
+use Rattle.std.specs.Prelude.{◌≡◌, ◌+◌, ◌++◌, ℕ, ℤ, Bool, true, false, List}
 use Rattle.std.specs.Str.{bytes_eq}
 use Rattle.ax_text.specs.declared.vocabulary.Handler.{Handler}
 use Rattle.ax_text.specs.declared.vocabulary.TimerOp.{TimerOp}
@@ -38,9 +38,9 @@ abbrev pub comes_to : Facts → Program → Machine → Cells → World
 comes_to f p m cells = at_once f (control_of p m) (fresh (silent (names_of m)) cells)
 
 -- it was done, and nothing has changed; or one request was served, and what is left comes behind what the turn says
-abbrev pub TakesTurn : Facts → Program → Machine → Machine → Cells → Cells → Option Turn → Type 0
-TakesTurn f p m m' cells cells' None = comes_to f p m cells ≡ fresh (silent (names_of m)) cells'
-TakesTurn f p m m' cells cells' (Some turn) = comes_to f p m cells ≡ behind turn.outs turn.timer_ops 1 (comes_to f p m' cells')
+abbrev pub TakesTurn : Facts → Program → Machine → Machine → Cells → Cells → Turn → Bool → Type 0
+TakesTurn f p m m' cells cells' turn false = comes_to f p m cells ≡ fresh (silent (names_of m)) cells'
+TakesTurn f p m m' cells cells' turn true = comes_to f p m cells ≡ behind turn.outs turn.timer_ops 1 (comes_to f p m' cells')
 
 -- each other key has the times that it had
 abbrev pub LeavesOthers : Key → List Timer → List Timer → Type 0

@@ -33,19 +33,26 @@ pub struct RunFacts<'a> {
     pub values: &'a [i64],
 }
 
-/// Room that the runs of handlers need, taken once: for the text of one line.
+/// Room that the runs of handlers need, kept from one run to the next: for the text of one line, for a machine and what it
+/// knows, and for what a turn says.
 #[derive(Drop)]
 pub struct Room {
     alloc: Global,
     text: Vec<u8>,
+    known: Option<Facts>,
+    machine: Machine,
+    turn: Turn,
 }
 
 impl Room {
-    /// Room for a line. A longer line than those before takes more.
+    /// Empty room. A run that needs more than those before takes more.
     pub fn new(alloc: Global) -> Room {
         Room {
             alloc,
             text: Vec::new(alloc),
+            known: None,
+            machine: Machine::new(alloc),
+            turn: Turn::new(alloc),
         }
     }
 
@@ -189,37 +196,76 @@ fn do_turn<K: Sink>(
     }
 }
 
-// What a machine knows.
-fn facts_of(alloc: Global, key: &Key, facts: &RunFacts<'_>) -> Result<Facts, NoMemory>
-    ensures { IfOk result (λ owned. facts_in owned ≡ shown_run_facts facts.now) }
+// These values, in the memory of a list that is no longer needed.
+fn refilled(list: Nums, values: &[i64]) -> Result<Nums, NoMemory>
+    ensures { IfOk result (λ list. list ≡ values.now) }
 {
-    Ok(Facts {
-        key: key.copy(alloc)?,
-        time: facts.time,
-        wm: facts.wm,
-        values: Nums::from_slice(alloc, facts.values)?,
-    })
+    let mut items = list.into_vec();
+    items.clear();
+    match items.extend_from_slice(values) {
+        Ok(()) => Ok(Nums::from_vec(items)),
+        Err(_) => Err(NoMemory),
+    }
 }
 
-// Answers what the least slot that waits has asked, and runs on. There is no turn where nothing waits: then it is done.
+// The key, which is copied only where it differs from the kept one.
+fn key_of(alloc: Global, kept: Key, key: &Key) -> Result<Key, NoMemory>
+    ensures { IfOk result (λ own. own ≡ key.now) }
+{
+    if kept == *key {
+        Ok(kept)
+    } else {
+        key.copy(alloc)
+    }
+}
+
+// What a machine knows, in the memory of what the one before knew.
+fn facts_of(
+    alloc: Global,
+    kept: Option<Facts>,
+    key: &Key,
+    facts: &RunFacts<'_>,
+) -> Result<Facts, NoMemory>
+    ensures facts { IfOk result (λ owned. facts_in owned ≡ shown_run_facts facts.now) }
+    ensures key { IfOk result (λ owned. owned.key ≡ key.now) }
+{
+    match kept {
+        Some(kept) => Ok(Facts {
+            key: key_of(alloc, kept.key, key)?,
+            time: facts.time,
+            wm: facts.wm,
+            values: refilled(kept.values, facts.values)?,
+        }),
+        None => Ok(Facts {
+            key: key.copy(alloc)?,
+            time: facts.time,
+            wm: facts.wm,
+            values: Nums::from_slice(alloc, facts.values)?,
+        }),
+    }
+}
+
+// Answers what the least slot that waits has asked, and runs on; what is said then is in the turn. The answer is false exactly
+// where nothing waits: then it is done.
 fn next_turn(
     machine: &mut Machine,
     program: &Program,
     facts: &Facts,
     cells: &mut KeyCells,
-) -> Result<Option<Turn>, NoMemory>
+    turn: &mut Turn,
+) -> Result<bool, NoMemory>
     requires sound { IsSound program.now machine.old }
     requires kinds { cell_kinds cells.old ≡ lang.shown_kinds program.now }
     ensures sound { OnOk result (IsSound program.now machine.new) }
     ensures kinds { cell_kinds cells.new ≡ lang.shown_kinds program.now }
-    ensures turn { IfOk result (TakesTurn (facts_in facts.now) program.now machine.old machine.new (shown_cells cells.old) (shown_cells cells.new)) }
+    ensures turn { IfOk result (λ more. TakesTurn (facts_in facts.now) program.now machine.old machine.new (shown_cells cells.old) (shown_cells cells.new) turn.new more) }
 {
     let Some((slot, request)) = machine.least_waiting() else {
-        return Ok(None);
+        return Ok(false);
     };
     let answer = cells.apply(request)?;
-    let turn = machine.resume(program, facts, slot, answer)?;
-    Ok(Some(turn))
+    machine.resume_into(program, facts, slot, answer, turn)?;
+    Ok(true)
 }
 
 /// Runs a handler on the states and timers of the key: what the least slot that waits has asked is answered at once, and when a
@@ -248,22 +294,23 @@ pub fn run_handler<K: Sink>(
     ensures counts { OwnCounts (K.counts out.old) (K.counts out.new) result }
     ensures base { K.base out.new ≡ K.base out.old }
 {
-    let Ok(known) = facts_of(room.alloc, key, facts) else {
+    let Ok(known) = facts_of(room.alloc, room.known.take(), key, facts) else {
         return Err(SinkFault::NoMemory);
     };
-    let Ok((machine, turn)) = Machine::start(room.alloc, program, handler, &known) else {
+    let Ok(()) = room
+        .machine
+        .start_into(program, handler, &known, &mut room.turn)
+    else {
         return Err(SinkFault::NoMemory);
     };
-    let mut machine = machine;
-    let mut turn = turn;
     'turns: loop {
-        do_turn(&mut room.text, key, &turn, timers, out)?;
-        let Ok(next) = next_turn(&mut machine, program, &known, cells) else {
+        do_turn(&mut room.text, key, &room.turn, timers, out)?;
+        let Ok(more) = next_turn(&mut room.machine, program, &known, cells, &mut room.turn) else {
             return Err(SinkFault::NoMemory);
         };
-        let Some(next) = next else {
+        if !more {
+            room.known = Some(known);
             return Ok(());
-        };
-        turn = next;
+        }
     }
 }

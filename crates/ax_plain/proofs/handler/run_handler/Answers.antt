@@ -11,10 +11,10 @@ turns-init g c =
     let p = c.args.program.now in
     let cells = shown_cells c.args.cells.now in
     record {
-      gone = start_gone_on c.args.key.now (run_from p c.args.handler c.args.facts.now cells) (g.K.Sink.holds c.args.out.now) c.args.timers.now c.in-Ok-start.turn.outs c.in-Ok-start.turn.timer_ops
-          (comes_to (facts_in c.in-Ok.known) p c.in-Ok-start.machine cells)
-          (starts_turn (facts_in c.in-Ok.known) p c.args.handler c.in-Ok-start.machine c.in-Ok-start.turn c.args.facts.now cells c.in-Ok.ensures c.in-Ok-start.ensures.turn);
-      sound = c.in-Ok-start.ensures.sound;
+      gone = start_gone_on c.args.key.now (run_from p c.args.handler c.args.facts.now cells) (g.K.Sink.holds c.args.out.now) c.args.timers.now c.start_into.new.turn.outs c.start_into.new.turn.timer_ops
+          (comes_to (facts_in c.in-Ok.known) p c.start_into.new.self cells)
+          (starts_turn (facts_in c.in-Ok.known) p c.args.handler c.start_into.new.self c.start_into.new.turn c.args.facts.now cells c.in-Ok.ensures.facts c.in-Ok-start_into.ensures.turn);
+      sound = c.in-Ok-start_into.ensures.sound;
       kinds = c.requires;
       others = λ q e. refl;
       counts = refl;
@@ -30,9 +30,9 @@ turns-preserved g c =
     let took = c.in-Ok-next_turn.ensures in
     record {
       gone = GoneOn-turn c.args.key.now (run_from p c.args.handler c.args.facts.now (shown_cells c.args.cells.now)) (g.K.Sink.holds c.args.out.now) (g.K.Sink.holds c.turns.out) c.args.timers.now c.turns.timers
-          c.turns.turn.outs c.turns.turn.timer_ops (comes_to f p c.turns.machine (shown_cells c.turns.cells)) before.gone (g.K.Sink.holds c.do_turn.new.out) c.do_turn.new.timers ran.lines ran.times
-          c.in-Some.next.outs c.in-Some.next.timer_ops (comes_to f p c.next_turn.new.machine (shown_cells c.next_turn.new.cells))
-          (subst (TakesTurn f p c.turns.machine c.next_turn.new.machine (shown_cells c.turns.cells) (shown_cells c.next_turn.new.cells)) c.in-Some.is took.turn);
+          c.turns.room.turn.outs c.turns.room.turn.timer_ops (comes_to f p c.turns.room.machine (shown_cells c.turns.cells)) before.gone (g.K.Sink.holds c.do_turn.new.out) c.do_turn.new.timers ran.lines ran.times
+          c.next_turn.new.turn.outs c.next_turn.new.turn.timer_ops (comes_to f p c.next_turn.new.machine (shown_cells c.next_turn.new.cells))
+          (subst (TakesTurn f p c.turns.room.machine c.next_turn.new.machine (shown_cells c.turns.cells) (shown_cells c.next_turn.new.cells) c.next_turn.new.turn) c.if-not-more.false took.turn);
       sound = took.sound;
       kinds = took.kinds;
       others = λ q e. ran.others q e ∙ before.others q e;
@@ -44,28 +44,28 @@ pub returns-in_err-do_turn-clause-part : goal.returns-in_err-do_turn-clause-part
 returns-in_err-do_turn-clause-part g c =
     let p = c.args.program.now in
     at_err c.from_residual.result (GoneOn-failed c.args.key.now (run_from p c.args.handler c.args.facts.now (shown_cells c.args.cells.now)) (g.K.Sink.holds c.args.out.now) (g.K.Sink.holds c.turns.out) c.args.timers.now c.turns.timers
-    c.turns.turn.outs c.turns.turn.timer_ops (comes_to (facts_in c.in-Ok.known) p c.turns.machine (shown_cells c.turns.cells)) c.turns.invariant.gone (g.K.Sink.holds c.do_turn.new.out) c.in_err-do_turn.ensures.part)
+    c.turns.room.turn.outs c.turns.room.turn.timer_ops (comes_to (facts_in c.in-Ok.known) p c.turns.room.machine (shown_cells c.turns.cells)) c.turns.invariant.gone (g.K.Sink.holds c.do_turn.new.out) c.in_err-do_turn.ensures.part)
 
 pub returns-in_default-next_turn-clause-part : goal.returns-in_default-next_turn-clause-part
 returns-in_default-next_turn-clause-part g c =
     let p = c.args.program.now in
     GoneOn-cut c.args.key.now (run_from p c.args.handler c.args.facts.now (shown_cells c.args.cells.now)) (g.K.Sink.holds c.args.out.now) (g.K.Sink.holds c.turns.out) c.args.timers.now c.turns.timers
-    c.turns.turn.outs c.turns.turn.timer_ops (comes_to (facts_in c.in-Ok.known) p c.turns.machine (shown_cells c.turns.cells)) c.turns.invariant.gone (g.K.Sink.holds c.do_turn.new.out) c.in_ok-do_turn.ensures.lines
+    c.turns.room.turn.outs c.turns.room.turn.timer_ops (comes_to (facts_in c.in-Ok.known) p c.turns.room.machine (shown_cells c.turns.cells)) c.turns.invariant.gone (g.K.Sink.holds c.do_turn.new.out) c.in_ok-do_turn.ensures.lines
 
-pub returns-in_default-next-clause-times : goal.returns-in_default-next-clause-times
-returns-in_default-next-clause-times g c =
+pub returns-then-not-more-clause-times : goal.returns-then-not-more-clause-times
+returns-then-not-more-clause-times g c =
     let p = c.args.program.now in
     let f = facts_in c.in-Ok.known in
     (GoneOn-end c.args.key.now (run_from p c.args.handler c.args.facts.now (shown_cells c.args.cells.now)) (g.K.Sink.holds c.args.out.now) (g.K.Sink.holds c.turns.out) c.args.timers.now c.turns.timers
-    c.turns.turn.outs c.turns.turn.timer_ops (comes_to f p c.turns.machine (shown_cells c.turns.cells)) c.turns.invariant.gone (g.K.Sink.holds c.do_turn.new.out) c.do_turn.new.timers
-    c.in_ok-do_turn.ensures.lines c.in_ok-do_turn.ensures.times (names_of c.turns.machine) (shown_cells c.next_turn.new.cells)
-    (subst (TakesTurn f p c.turns.machine c.next_turn.new.machine (shown_cells c.turns.cells) (shown_cells c.next_turn.new.cells)) c.in_default-next.is c.in-Ok-next_turn.ensures.turn)).1
+    c.turns.room.turn.outs c.turns.room.turn.timer_ops (comes_to f p c.turns.room.machine (shown_cells c.turns.cells)) c.turns.invariant.gone (g.K.Sink.holds c.do_turn.new.out) c.do_turn.new.timers
+    c.in_ok-do_turn.ensures.lines c.in_ok-do_turn.ensures.times (names_of c.turns.room.machine) (shown_cells c.next_turn.new.cells)
+    (subst (TakesTurn f p c.turns.room.machine c.next_turn.new.machine (shown_cells c.turns.cells) (shown_cells c.next_turn.new.cells) c.next_turn.new.turn) c.if-not-more.true c.in-Ok-next_turn.ensures.turn)).1
 
-pub returns-in_default-next-clause-lines : goal.returns-in_default-next-clause-lines
-returns-in_default-next-clause-lines g c =
+pub returns-then-not-more-clause-lines : goal.returns-then-not-more-clause-lines
+returns-then-not-more-clause-lines g c =
     let p = c.args.program.now in
     let f = facts_in c.in-Ok.known in
     (GoneOn-end c.args.key.now (run_from p c.args.handler c.args.facts.now (shown_cells c.args.cells.now)) (g.K.Sink.holds c.args.out.now) (g.K.Sink.holds c.turns.out) c.args.timers.now c.turns.timers
-    c.turns.turn.outs c.turns.turn.timer_ops (comes_to f p c.turns.machine (shown_cells c.turns.cells)) c.turns.invariant.gone (g.K.Sink.holds c.do_turn.new.out) c.do_turn.new.timers
-    c.in_ok-do_turn.ensures.lines c.in_ok-do_turn.ensures.times (names_of c.turns.machine) (shown_cells c.next_turn.new.cells)
-    (subst (TakesTurn f p c.turns.machine c.next_turn.new.machine (shown_cells c.turns.cells) (shown_cells c.next_turn.new.cells)) c.in_default-next.is c.in-Ok-next_turn.ensures.turn)).2
+    c.turns.room.turn.outs c.turns.room.turn.timer_ops (comes_to f p c.turns.room.machine (shown_cells c.turns.cells)) c.turns.invariant.gone (g.K.Sink.holds c.do_turn.new.out) c.do_turn.new.timers
+    c.in_ok-do_turn.ensures.lines c.in_ok-do_turn.ensures.times (names_of c.turns.room.machine) (shown_cells c.next_turn.new.cells)
+    (subst (TakesTurn f p c.turns.room.machine c.next_turn.new.machine (shown_cells c.turns.cells) (shown_cells c.next_turn.new.cells) c.next_turn.new.turn) c.if-not-more.true c.in-Ok-next_turn.ensures.turn)).2

@@ -9,8 +9,8 @@ use Rattle.ax_plain.proofs.handler.run_handler.Given as goal
 
 abbrev pub invariant-turns : goal.invariant-turns
 invariant-turns g l = record {
-  gone : GoneOn l.key (run_from l.program l.fn.handler l.facts (shown_cells l.fn.cells)) (g.K.Sink.holds l.fn.out) (g.K.Sink.holds l.out) l.fn.timers l.timers l.turn.outs l.turn.timer_ops (comes_to (facts_in l.known) l.program l.machine (shown_cells l.cells));
-  sound : IsSound l.program l.machine;
+  gone : GoneOn l.key (run_from l.program l.fn.handler l.facts (shown_cells l.fn.cells)) (g.K.Sink.holds l.fn.out) (g.K.Sink.holds l.out) l.fn.timers l.timers l.room.turn.outs l.room.turn.timer_ops (comes_to (facts_in l.known) l.program l.room.machine (shown_cells l.cells));
+  sound : IsSound l.program l.room.machine;
   kinds : cell_kinds l.cells ≡ lang.shown_kinds l.program;
   others : LeavesOthers l.key l.fn.timers l.timers;
   counts : g.K.Sink.counts l.out ≡ g.K.Sink.counts l.fn.out;
@@ -18,4 +18,4 @@ invariant-turns g l = record {
 }
 
 abbrev pub decreases-turns : goal.decreases-turns
-decreases-turns g l = (comes_to (facts_in l.known) l.program l.machine (shown_cells l.cells)).served
+decreases-turns g l = (comes_to (facts_in l.known) l.program l.room.machine (shown_cells l.cells)).served

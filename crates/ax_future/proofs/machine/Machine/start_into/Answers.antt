@@ -1,4 +1,4 @@
-use Rattle.std.proofs.Common.{◌∙◌, [], pos, refl, ap}
+use Rattle.std.proofs.Common.{◌∙◌, [], pos, refl, sym, ap}
 use Rattle.ax_text.specs.Jobs.{text_for}
 use Rattle.ax_text.specs.Silent.{silent}
 use Rattle.ax_lang.specs.Shown.{shown_program, text_from}
@@ -6,9 +6,10 @@ use Rattle.ax_text.proofs.LeastSlots.{takes_rise}
 use Rattle.ax_future.specs.Nodes.{cursor_in}
 use Rattle.ax_future.specs.Talks.{facts_in, talk_of, asks_in}
 use Rattle.ax_future.specs.Moves.{turn_of}
+use Rattle.ax_future.specs.Machines.{left_by}
 use Rattle.ax_future.proofs.TalkLemmas.{no_names}
 use Rattle.ax_future.proofs.MachineLemmas.{start_room, start_turn, start_sound, start_asks, start_least}
-use Rattle.ax_future.proofs.machine.Machine.start.Goals as goal
+use Rattle.ax_future.proofs.machine.Machine.start_into.Goals as goal
 
 pub begin-requires : goal.begin-requires
 begin-requires c =
@@ -20,22 +21,23 @@ returns-clause-turn c =
     let p = c.args.program.now in
     start_turn (facts_in c.args.facts.now) [] (talk_of c.silent-going.result) (asks_in c.silent-going.result.asks) (turn_of p c.begin.new.going c.in_ok-node.node)
     (cursor_in p c.in_ok-cursor.cursor.items) (text_from p c.place_of.result) (text_for (shown_program p) c.args.handler) (λ i. pos 0)
-    (c.in_ok-cursor.ensures.cursor p) c.place_of.ensures refl (ap (λ g. asks_in g.asks) c.silent-going.ensures) (ap talk_of c.silent-going.ensures ∙ ap silent (no_names c.new.result.items c.new.ensures.items)) c.in_ok-node.ensures
+    (c.in_ok-cursor.ensures.cursor p) c.place_of.ensures refl (ap (λ g. asks_in g.asks) c.silent-going.ensures) (ap talk_of c.silent-going.ensures ∙ ap silent (no_names c.emptied-names.result.items c.emptied-names.ensures)) c.in_ok-node.ensures
+    ∙ sym (c.leave.ensures p)
 
 pub returns-clause-sound : goal.returns-clause-sound
 returns-clause-sound c =
     let p = c.args.program.now in
-    start_sound p c.args.handler (facts_in c.args.facts.now) (silent (λ i. pos 0)) (turn_of p c.begin.new.going c.in_ok-node.node) (returns-clause-turn c)
+    start_sound p c.args.handler (facts_in c.args.facts.now) (silent (λ i. pos 0)) (left_by p c.leave.new.self c.leave.new.turn) (returns-clause-turn c)
 
 pub returns-clause-asks : goal.returns-clause-asks
 returns-clause-asks c =
     let p = c.args.program.now in
-    start_asks (facts_in c.args.facts.now) (text_for (shown_program p) c.args.handler) (silent (λ i. pos 0)) (turn_of p c.begin.new.going c.in_ok-node.node) (returns-clause-turn c)
+    start_asks (facts_in c.args.facts.now) (text_for (shown_program p) c.args.handler) (silent (λ i. pos 0)) (left_by p c.leave.new.self c.leave.new.turn) (returns-clause-turn c)
 
 pub returns-clause-least : goal.returns-clause-least
 returns-clause-least c =
     let p = c.args.program.now in
-    start_least (facts_in c.args.facts.now) (text_for (shown_program p) c.args.handler) (silent (λ i. pos 0)) (turn_of p c.begin.new.going c.in_ok-node.node) (returns-clause-turn c)
+    start_least (facts_in c.args.facts.now) (text_for (shown_program p) c.args.handler) (silent (λ i. pos 0)) (left_by p c.leave.new.self c.leave.new.turn) (returns-clause-turn c)
 
 pub returns-clause-rise : goal.returns-clause-rise
-returns-clause-rise c = takes_rise [] (asks_in c.begin.new.going.asks) (returns-clause-least c)
+returns-clause-rise c = takes_rise [] (asks_in c.leave.new.turn.asks) (returns-clause-least c)

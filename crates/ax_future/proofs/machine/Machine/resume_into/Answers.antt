@@ -1,4 +1,4 @@
-use Rattle.std.proofs.Common.{◌∙◌, ap}
+use Rattle.std.proofs.Common.{◌∙◌, sym, ap}
 use Rattle.ax_text.specs.Programs.{program_width}
 use Rattle.ax_text.specs.Controls.{slots, without}
 use Rattle.ax_text.specs.Silent.{silent}
@@ -7,8 +7,9 @@ use Rattle.ax_text.proofs.LeastSlots.{takes_rise}
 use Rattle.ax_future.specs.Nodes.{control_in}
 use Rattle.ax_future.specs.Talks.{facts_in, talk_of, asks_in, names_at}
 use Rattle.ax_future.specs.Moves.{turn_of}
+use Rattle.ax_future.specs.Machines.{left_by}
 use Rattle.ax_future.proofs.MachineLemmas.{given_sound, given_least, give_turn, give_asks, room_for}
-use Rattle.ax_future.proofs.machine.Machine.resume.Goals as goal
+use Rattle.ax_future.proofs.machine.Machine.resume_into.Goals as goal
 
 pub give_in-requires : goal.give_in-requires
 give_in-requires c =
@@ -23,24 +24,25 @@ returns-clause-turn c =
     (control_in p c.args.self.now.node) (control_in p c.replace-node.result) c.args.slot c.args.answer (ap (control_in p) c.replace-node.ensures.value) c.in_ok-node.ensures
     (silent (names_at c.args.self.now.names.items)) (c.deref.ensures.value ∙ (c.in_ok-others.ensures p ∙ ap (λ n. without c.args.slot (slots (control_in p n))) c.replace-node.ensures.value))
     (ap talk_of c.silent-going.ensures ∙ ap (λ v. silent (names_at v.items)) c.replace-names.ensures.value) (ap (λ g. asks_in g.asks) c.silent-going.ensures)
+    ∙ sym (c.leave.ensures p)
 
 pub returns-clause-sound : goal.returns-clause-sound
 returns-clause-sound c =
     let p = c.args.program.now in
     given_sound (program_width (shown_program p)) (shown_kinds p) (facts_in c.args.facts.now) (control_in p c.args.self.now.node) c.args.slot c.args.answer (silent (names_at c.args.self.now.names.items))
-    (turn_of p c.give_in.new.going c.in_ok-node.node) c.requires.sound c.requires.waits (returns-clause-turn c)
+    (left_by p c.leave.new.self c.leave.new.turn) c.requires.sound c.requires.waits (returns-clause-turn c)
 
 pub returns-clause-asks : goal.returns-clause-asks
 returns-clause-asks c =
     let p = c.args.program.now in
     give_asks (facts_in c.args.facts.now) (control_in p c.args.self.now.node) c.args.slot c.args.answer (silent (names_at c.args.self.now.names.items))
-    (turn_of p c.give_in.new.going c.in_ok-node.node) c.requires.waits (returns-clause-turn c)
+    (left_by p c.leave.new.self c.leave.new.turn) c.requires.waits (returns-clause-turn c)
 
 pub returns-clause-least : goal.returns-clause-least
 returns-clause-least c =
     let p = c.args.program.now in
     given_least (facts_in c.args.facts.now) (control_in p c.args.self.now.node) c.args.slot c.args.answer (silent (names_at c.args.self.now.names.items))
-    (turn_of p c.give_in.new.going c.in_ok-node.node) c.requires.waits (returns-clause-turn c)
+    (left_by p c.leave.new.self c.leave.new.turn) c.requires.waits (returns-clause-turn c)
 
 pub returns-clause-rise : goal.returns-clause-rise
-returns-clause-rise c = takes_rise (without c.args.slot (slots (control_in c.args.program.now c.args.self.now.node))) (asks_in c.give_in.new.going.asks) (returns-clause-least c)
+returns-clause-rise c = takes_rise (without c.args.slot (slots (control_in c.args.program.now c.args.self.now.node))) (asks_in c.leave.new.turn.asks) (returns-clause-least c)
