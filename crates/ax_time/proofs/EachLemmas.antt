@@ -1,7 +1,7 @@
 -- What several calls keep of one epoch's work, and the number of the current epoch.
-use Rattle.std.proofs.Common.{◌≡◌, ◌+◌, ◌-◌, ◌%◌, ◌^◌, ◌<◌, ◌≤◌, ◌==◌, Bool, true, false, if◌then◌else◌, ℕ, zero, suc, List, [], ◌∷◌, ◌++◌, length, refl, ap, sym, subst, ◌∙◌, arith}
+use Rattle.std.proofs.Common.{◌≡◌, ◌+◌, ◌-◌, ◌%◌, ◌^◌, ◌<◌, ◌==◌, Bool, true, false, if◌then◌else◌, ℕ, zero, suc, List, [], ◌∷◌, length, refl, ap, subst, ◌∙◌, arith}
 use Rattle.std.proofs.lemmas.List.{length-append, length-map}
-use Rattle.ax_time.specs.Epochs.{Book, Fits64, fresh, place_of, current_of, IsOpen, count_at, count_of, with_count, closed_by, taken, markers_of}
+use Rattle.ax_time.specs.Epochs.{Book, Fits64, fresh, place_of, current_of, IsOpen, count_at, count_of, with_count, markers_of}
 use Rattle.ax_time.specs.EpochRuns.{Call, Enter, Leave, Close, Take, after, Wants, AllWanted, AllFit, NumberFits, book_after, actions_taken, actions_given, entered_there_by, left_there_by, entered_there, left_there}
 use Rattle.ax_time.proofs.EpochLemmas.{own_count, other_count, count_at-close, taken_count}
 use Rattle.ax_time.proofs.RunLemmas.{run_markers, run_oldest}

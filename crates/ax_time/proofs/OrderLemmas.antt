@@ -1,10 +1,9 @@
 -- Which epochs are finished, by their counts.
-use Rattle.std.proofs.Common.{◌≡◌, ◌+◌, ◌-◌, ◌%◌, ◌^◌, if◌then◌else◌, ◌<◌, ◌≤◌, ◌==◌, ◌&&◌, ◌↔◌, Bool, true, false, ℕ, zero, suc, List, [], ◌∷◌, length, IsSome, refl, ap, sym, ◌∙◌, subst, arith}
-use Rattle.std.specs.Prelude.{Option, None, Some}
+use Rattle.std.proofs.Common.{◌≡◌, ◌^◌, if◌then◌else◌, ◌<◌, ◌≤◌, ◌==◌, ◌&&◌, ◌↔◌, Bool, true, false, ℕ, zero, suc, List, [], ◌∷◌, length, IsSome, refl, ap, sym, subst, arith}
+use Rattle.std.specs.Prelude.{None, Some}
 use Rattle.std.proofs.lemmas.Bool.{true≢false}
 use Rattle.ax_time.specs.declared.epoch.Closed.{Closed}
-use Rattle.ax_time.specs.declared.epoch.Marker.{Marker}
-use Rattle.ax_time.specs.Epochs.{Book, place_of, count_of, count_at, taken, next_action, is_finished}
+use Rattle.ax_time.specs.Epochs.{Book, count_of, count_at, next_action, is_finished}
 use Rattle.ax_time.proofs.EpochLemmas.{and_second, earlier_finished}
 
 -- the oldest epoch stands first
