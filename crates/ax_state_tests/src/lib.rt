@@ -1,4 +1,4 @@
-//! Tests of the crates that keep something and hand it on: states, timers, contexts, accounts, buffer, mailbox, run store.
+//! Tests of the crates that keep something and hand it on: states, timers, epochs, contexts, accounts, buffer, mailbox, run store.
 //! Each is driven from outside, beside a plain list or map.
 #![tactic(auto)]
 
@@ -11,6 +11,8 @@ mod cells;
 #[cfg(test)]
 mod contexts;
 pub mod draws;
+#[cfg(test)]
+mod epochs;
 #[cfg(test)]
 mod kept_timers;
 #[cfg(test)]

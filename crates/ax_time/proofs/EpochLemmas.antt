@@ -8,7 +8,7 @@ and_first : (a b : Bool) → (a && b) ≡ true → a ≡ true
 and_first false b h = h
 and_first true b h = refl
 
-and_second : (a b : Bool) → (a && b) ≡ true → b ≡ true
+pub and_second : (a b : Bool) → (a && b) ≡ true → b ≡ true
 and_second false b h = grind (arith, h)
 and_second true b h = h
 

@@ -1,7 +1,7 @@
 -- Several calls on the epochs, one after the other.
-use Rattle.std.specs.Prelude.{◌≡◌, ℕ, ◌+◌, ◌-◌, ◌%◌, ◌^◌, ◌<◌, List, [], ◌∷◌, ◌++◌, length, Option, None, Some}
+use Rattle.std.specs.Prelude.{◌≡◌, ℕ, ◌+◌, ◌-◌, ◌%◌, ◌^◌, ◌<◌, ◌==◌, if◌then◌else◌, List, [], ◌∷◌, ◌++◌, length, Option, None, Some}
 use Rattle.ax_time.specs.declared.epoch.Marker.{Marker}
-use Rattle.ax_time.specs.Epochs.{Book, fresh, IsOpen, count_of, with_count, closed_by, next_action, taken, markers_of, work_of}
+use Rattle.ax_time.specs.Epochs.{Book, Fits64, fresh, current_of, IsOpen, count_of, with_count, closed_by, next_action, taken, markers_of, work_of}
 
 -- a call that went well
 pub data Call : Type 0 where
@@ -79,8 +79,46 @@ abbrev pub left : List Call → ℕ
 left [] = 0
 left (call ∷ calls) = left_by call + left calls
 
+-- how much work entered one epoch, and how much left it
+abbrev pub entered_there_by : ℕ → Call → ℕ
+entered_there_by epoch (Enter other) = if other == epoch then 1 else 0
+entered_there_by epoch (Leave other) = 0
+entered_there_by epoch (Close m) = 0
+entered_there_by epoch Take = 0
+
+abbrev pub left_there_by : ℕ → Call → ℕ
+left_there_by epoch (Enter other) = 0
+left_there_by epoch (Leave other) = if other == epoch then 1 else 0
+left_there_by epoch (Close m) = 0
+left_there_by epoch Take = 0
+
+abbrev pub entered_there : ℕ → List Call → ℕ
+entered_there epoch [] = 0
+entered_there epoch (call ∷ calls) = entered_there_by epoch call + entered_there epoch calls
+
+abbrev pub left_there : ℕ → List Call → ℕ
+left_there epoch [] = 0
+left_there epoch (call ∷ calls) = left_there_by epoch call + left_there epoch calls
+
+-- the epoch that a call names has a number of 64 bits
+abbrev pub NumberFits : Call → Type 0
+NumberFits (Enter epoch) = epoch < 2 ^ 64
+NumberFits (Leave epoch) = epoch < 2 ^ 64
+NumberFits (Close m) = Unit {0}
+NumberFits Take = Unit {0}
+
+-- at each of these calls the numbers fit 64 bits
+abbrev pub AllFit : List Call → Book → Type 0
+AllFit [] book = Unit {0}
+AllFit (call ∷ calls) book = Fits64 book × NumberFits call × AllFit calls (after call book)
+
 -- from no epochs on: actions are taken in the order of the epochs, each once; epochs are numbered from 0; the work is what entered and has not left
 pub record Keeps (calls : List Call) (book : Book) : Type 0 where
   pub actions : actions_given calls ≡ actions_taken calls fresh ++ markers_of book.closed
   pub numbers : book.oldest ≡ length (actions_taken calls fresh) % 2 ^ 64
+  pub current : current_of book ≡ length (actions_given calls) % 2 ^ 64
   pub work : entered calls ≡ left calls + work_of book
+
+-- what entered an epoch is what left it and its work
+abbrev pub KeepsEach : List Call → Book → Type 0
+KeepsEach calls book = (epoch : ℕ) → epoch < 2 ^ 64 → entered_there epoch calls ≡ left_there epoch calls + count_of book epoch

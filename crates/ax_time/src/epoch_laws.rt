@@ -1,9 +1,9 @@
 //! What holds of epochs. Each is the contract of a function that does nothing, which a caller's proof may cite.
-ghost use Rattle.std.specs.Prelude.{◌≡◌, ℕ, ◌+◌, ◌-◌, ◌^◌, ◌<◌, ◌≤◌, ◌↔◌, true, List, length, IsSome};
+ghost use Rattle.std.specs.Prelude.{◌≡◌, ℕ, ◌+◌, ◌-◌, ◌%◌, ◌^◌, ◌<◌, ◌≤◌, ◌↔◌, true, List, ◌∷◌, length, None, Some, IsSome};
 ghost use Rattle.ax_time.specs.declared.epoch.Closed.{Closed};
 ghost use Rattle.ax_time.specs.declared.epoch.Marker.{Marker};
-ghost use Rattle.ax_time.specs.Epochs.{Book, Fits64, fresh, place_of, age_of, IsOpen, count_of, with_count, closed_by, is_finished, next_action, taken, markers_of};
-ghost use Rattle.ax_time.specs.EpochRuns.{Call, AllWanted, book_after, Keeps};
+ghost use Rattle.ax_time.specs.Epochs.{Book, Fits64, fresh, place_of, age_of, IsOpen, count_at, count_of, with_count, closed_by, is_finished, next_action, taken, markers_of};
+ghost use Rattle.ax_time.specs.EpochRuns.{Call, AllWanted, AllFit, book_after, Keeps, KeepsEach};
 
 use crate::epochs::Epochs;
 
@@ -35,17 +35,30 @@ pub fn counts_stay_law()
     ensures taken { (book : Book) (epoch : ℕ) → Fits64 book → epoch < 2 ^ 64 → count_of (taken book) epoch ≡ count_of book epoch }
 {}
 
-/// A closed epoch is finished only where each earlier one is. The final action of the oldest is there to be taken exactly where
-/// that is finished; a later epoch that is finished stays so when it is taken.
+/// A final action is there exactly where an epoch is closed and the oldest has no work: that of the oldest. When it is taken,
+/// that epoch alone is gone, and the oldest has the next number. Where none is there, all stays.
+pub fn oldest_is_taken_law()
+    ensures there { (book : Book) → Fits64 book → IsSome (next_action book.closed) ↔ ((0 < length book.closed) × (count_of book book.oldest ≡ 0)) }
+    ensures own { (book : Book) (c : Closed) (cs : List Closed) (m : Marker) → book.closed ≡ c ∷ cs → next_action book.closed ≡ Some m → m ≡ c.marker }
+    ensures gone { (book : Book) (c : Closed) (cs : List Closed) → book.closed ≡ c ∷ cs → IsSome (next_action book.closed) → taken book ≡ record { oldest = (book.oldest + 1) % 2 ^ 64; closed = cs; count = book.count } }
+    ensures stays { (book : Book) → next_action book.closed ≡ None → taken book ≡ book }
+{}
+
+/// A closed epoch is finished exactly where neither it nor an earlier one has work, so only where each earlier one is. The final
+/// action of the oldest is there to be taken exactly where that is finished; a later epoch that is finished stays so when it is
+/// taken.
 pub fn finished_in_order_law()
+    ensures means { (closed : List Closed) (count place : ℕ) → (is_finished closed place ≡ true) ↔ ((place < length closed) × ((before : ℕ) → before ≤ place → count_at closed count before ≡ 0)) }
     ensures earlier { (closed : List Closed) (place before : ℕ) → is_finished closed place ≡ true → before ≤ place → is_finished closed before ≡ true }
     ensures action { (closed : List Closed) → IsSome (next_action closed) ↔ (is_finished closed 0 ≡ true) }
     ensures rest { (book : Book) (place : ℕ) → is_finished book.closed (place + 1) ≡ true → is_finished (taken book).closed place ≡ true }
 {}
 
 /// From `new` on, whatever calls went well: the final actions that were taken, and then those that are left, are those that were
-/// given to `close`, in order; the oldest epoch has the number of the actions taken, wrapping; and the counts of all epochs are
-/// together the work that entered and has not left.
+/// given to `close`, in order; the oldest epoch has the number of the actions taken, and the current one that of the calls of
+/// `close`, wrapping; and the counts of all epochs are together the work that entered and has not left. While the numbers fit 64
+/// bits, the count of each epoch is what entered there and has not left.
 pub fn epochs_law()
-    ensures { (calls : List Call) → AllWanted calls fresh → Keeps calls (book_after calls fresh) }
+    ensures all { (calls : List Call) → AllWanted calls fresh → Keeps calls (book_after calls fresh) }
+    ensures each { (calls : List Call) → AllWanted calls fresh → AllFit calls fresh → KeepsEach calls (book_after calls fresh) }
 {}
