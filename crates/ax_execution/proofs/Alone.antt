@@ -239,3 +239,11 @@ module _ (g : ℕ) (p : Program) (Good : Running → Type 0) (H : Handles p Good
   work_keeps r e m done a i h k =
       (event_alone r e m done a h).settles k
       ∙ (ap (λ (es : List Event). (key_sync_from p from k (done ++ es)).said) (work_takes_nothing e i) ∙ (ap (λ (es : List Event). (key_sync_from p from k es).said) (append-nil done) ∙ sym (a.settles k)))
+
+  -- nor of its lines that were written and then those that it owes
+  pub work_keeps_lines : (r : Rules) (e : Happening) (m : Machine) (done : List Event) → Alone m done → IsWork e → Allowed r e m → (k : Key)
+      → lines_of k (happens g p e m).written ++ owed p ((happens g p e m).parts k) ≡ lines_of k m.written ++ owed p (m.parts k)
+  work_keeps_lines r e m done a i h k =
+      written_then_owed (happens g p e m) (done ++ taken (e ∷ [])) (event_alone r e m done a h) k
+      ∙ (ap (λ (es : List Event). lines_of k (sync_from g p from (done ++ es)).entries) (work_takes_nothing e i)
+      ∙ (ap (λ (es : List Event). lines_of k (sync_from g p from es).entries) (append-nil done) ∙ sym (written_then_owed m done a k)))

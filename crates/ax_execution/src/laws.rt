@@ -1,5 +1,9 @@
 //! Laws of the machine, over all key groups, programs whose handlers are accepted, rules and runs from the start.
 ghost use Rattle.std.specs.Prelude.{◌≡◌, ℕ, suc, ◌+◌, ◌≤◌, ◌<◌, ℤ, int_lt, List, [], ◌∷◌, ◌++◌, length, true, false, Some, None};
+ghost use Rattle.std.specs.Str.{bytes_eq};
+ghost use Rattle.std.specs.List.{list_any};
+ghost use Rattle.std.specs.List.Sorted.{IsStrictlySortedBy};
+ghost use Rattle.ax_keys.specs.Keys.{key_cmp};
 ghost use Rattle.ax_text.specs.Exprs.{Facts};
 ghost use Rattle.ax_text.specs.Programs.{Program};
 ghost use Rattle.ax_machine.specs.Entries.{Key, Watermark, lines_of};
@@ -55,15 +59,21 @@ pub fn firings_are_merged_by_time_and_key()
 {}
 
 /// Each key goes as alone, whatever events come: it comes to what its own plain thread has and has said for the events that were
-/// taken, and its lines that were written and then those that it owes are its lines of the plain thread. An event that takes
-/// nothing of the input changes nothing of what it comes to.
+/// taken, its states and timers are then those of the plain thread, and its lines that were written and then those that it owes
+/// are its lines of the plain thread. An event that takes nothing of the input changes nothing of what it comes to, nor of its
+/// lines that were written and then those that it owes.
 pub fn key_goes_as_alone()
     ensures settles { (r : Rules) (g : ℕ) (p : Program) (from : Origin) (es : List Happening) (k : Key) → AreAccepted p → IsOrigin p from → IsRun r g p es (machine_from from)
         → settled p ((machine_of g p from es).parts k) ≡ (key_sync_from p from k (taken es)).said }
+    ensures state { (r : Rules) (g : ℕ) (p : Program) (from : Origin) (es : List Happening) (k : Key) → AreAccepted p → IsOrigin p from → IsRun r g p es (machine_from from)
+        → (settled p ((machine_of g p from es).parts k)).state ≡ (sync_from g p from (taken es)).map k }
     ensures lines { (r : Rules) (g : ℕ) (p : Program) (from : Origin) (es : List Happening) (k : Key) → AreAccepted p → IsOrigin p from → IsRun r g p es (machine_from from)
         → lines_of k (machine_of g p from es).written ++ owed p ((machine_of g p from es).parts k) ≡ lines_of k (sync_from g p from (taken es)).entries }
     ensures kept { (r : Rules) (g : ℕ) (p : Program) (from : Origin) (es : List Happening) (e : Happening) (k : Key) → AreAccepted p → IsOrigin p from → IsRun r g p es (machine_from from) → IsWork e → Allowed r e (machine_of g p from es)
         → settled p ((happens g p e (machine_of g p from es)).parts k) ≡ settled p ((machine_of g p from es).parts k) }
+    ensures kept_lines { (r : Rules) (g : ℕ) (p : Program) (from : Origin) (es : List Happening) (e : Happening) (k : Key) → AreAccepted p → IsOrigin p from → IsRun r g p es (machine_from from) → IsWork e → Allowed r e (machine_of g p from es)
+        → lines_of k (happens g p e (machine_of g p from es)).written ++ owed p ((happens g p e (machine_of g p from es)).parts k)
+        ≡ lines_of k (machine_of g p from es).written ++ owed p ((machine_of g p from es).parts k) }
 {}
 
 /// Whatever events come, what was written may have been written so far for the events that were taken, in either mode,
@@ -77,7 +87,8 @@ pub fn written_is_lawful()
 
 /// Never more contexts are in flight than the limit; rows wait only behind an owner, or where their own key must fire; a key that must
 /// fire is idle, and there is room for its context; and a handler that has begun waits for an answer. No two contexts have one number. The mark in front of a key without owner
-/// is due. The owner of a key has a reference left: a callback that hasn't ended.
+/// is due. The owner of a key has a reference left: a callback that hasn't ended. The keys of rows strictly rise, and no other key has
+/// an owner or anything that waits.
 pub fn one_owner_and_limit()
     ensures limit { (r : Rules) (g : ℕ) (p : Program) (from : Origin) (es : List Happening) → AreAccepted p → IsOrigin p from → IsRun r g p es (machine_from from) → in_flight (machine_of g p from es) ≤ r.limit }
     ensures rows { (r : Rules) (g : ℕ) (p : Program) (from : Origin) (es : List Happening) (k : Key) → AreAccepted p → IsOrigin p from → IsRun r g p es (machine_from from) → ((machine_of g p from es).must ≡ Some k → ⊥)
@@ -93,6 +104,10 @@ pub fn one_owner_and_limit()
         → may_fire w more ((machine_of g p from es).parts k).said.state.times ≡ true }
     ensures referred { (r : Rules) (g : ℕ) (p : Program) (from : Origin) (es : List Happening) (k : Key) (c : Context) → AreAccepted p → IsOrigin p from → IsRun r g p es (machine_from from)
         → ((machine_of g p from es).parts k).owner ≡ Some c → 0 < references c.stage }
+    ensures absent { (r : Rules) (g : ℕ) (p : Program) (from : Origin) (es : List Happening) (k : Key) → AreAccepted p → IsOrigin p from → IsRun r g p es (machine_from from)
+        → list_any (bytes_eq k) (machine_of g p from es).keys ≡ false → (((machine_of g p from es).parts k).owner ≡ None) × (((machine_of g p from es).parts k).waiting ≡ []) }
+    ensures keys_rise { (r : Rules) (g : ℕ) (p : Program) (from : Origin) (es : List Happening) → AreAccepted p → IsOrigin p from → IsRun r g p es (machine_from from)
+        → IsStrictlySortedBy key_cmp (machine_of g p from es).keys }
 {}
 
 /// Admit and Fire make one context. One is given up exactly at an event whose outcome says so, the one whose callback has run;

@@ -7,4 +7,4 @@ pub mod constants;
 pub mod laws;
 pub mod rows;
 
-pub use constants::{first_epoch, run_weight};
+pub use constants::first_epoch;

@@ -1,7 +1,7 @@
 use Rattle.std.proofs.Common.{◌≡◌, List, Option, Some, subst, ◌⊎◌, inl, inr}
 use Rattle.ax_execution.specs.Contexts.{Context, Waiting, rows_in}
-use Rattle.ax_execution.specs.Machine.{Machine, machine_of}
-use Rattle.ax_execution.proofs.Orderly.{IsOrderly, always_orderly}
+use Rattle.ax_execution.specs.Machine.{Machine, machine_of, taken}
+use Rattle.ax_execution.proofs.Orderly.{IsOrderly, always_orderly, keys_rise}
 use Rattle.ax_execution.proofs.Handlers.{Good, handles}
 use Rattle.ax_execution.proofs.Stuck.{FrontFires, IsOrdered, StageWakes, IsAwake}
 use Rattle.ax_execution.proofs.Alone.{goes_as_alone}
@@ -56,3 +56,10 @@ pub returns-clause-referred : goal.returns-clause-referred
 returns-clause-referred c r g p from es k it accepted fits h owner = owner_referred p Good (handles p accepted) it
     (subst (OwnerGood Good) owner ((goes_as_alone g p Good (handles p accepted) from fits r es h).good k))
     (subst IsAwake owner ((always_orderly g p Good (handles p accepted) from fits r es h).sound.awake k))
+
+pub returns-clause-absent : goal.returns-clause-absent
+returns-clause-absent c r g p from es k accepted fits h none =
+    (((always_orderly g p Good (handles p accepted) from fits r es h).absent k none).owner, ((always_orderly g p Good (handles p accepted) from fits r es h).absent k none).waiting)
+
+pub returns-clause-keys_rise : goal.returns-clause-keys_rise
+returns-clause-keys_rise c r g p from es accepted fits h = keys_rise g p Good (handles p accepted) from fits (machine_of g p from es) (taken es) (goes_as_alone g p Good (handles p accepted) from fits r es h)
