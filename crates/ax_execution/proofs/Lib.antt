@@ -1,4 +1,9 @@
 pub mod Cases
+pub mod CellsKept
+pub mod EventControls
+pub mod ControlsAllowed
+pub mod ControlSums
+pub mod ControlChanges
 pub mod Asking
 pub mod GivenUp
 pub mod References
@@ -12,7 +17,6 @@ pub mod Outside
 pub mod Skips
 pub mod Projected
 pub mod Counts
-pub mod Wakeful
 pub mod Alone
 pub mod Falls
 pub mod Handles
