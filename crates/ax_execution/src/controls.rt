@@ -1,8 +1,8 @@
 //! Laws of the control: what of the machine a controller knows goes on by itself, whatever cells gave the answers.
-ghost use Rattle.std.specs.Prelude.{◌≡◌, ℕ, ◌+◌, List, ◌++◌, false, Option, Some};
+ghost use Rattle.std.specs.Prelude.{◌≡◌, ℕ, ◌+◌, List, ◌++◌, length, false, Option, Some};
 ghost use Rattle.ax_text.specs.declared.vocabulary.Answer.{Answer};
 ghost use Rattle.ax_text.specs.declared.vocabulary.Request.{Request};
-ghost use Rattle.ax_text.specs.Cells.{cells_after};
+ghost use Rattle.ax_text.specs.Cells.{Cells, cells_after};
 ghost use Rattle.ax_text.specs.Programs.{Program};
 ghost use Rattle.ax_text.specs.Controls.{request_at};
 ghost use Rattle.ax_machine.specs.Entries.{Key};
@@ -10,12 +10,12 @@ ghost use Rattle.ax_execution.specs.Accepted.{AreAccepted};
 ghost use Rattle.ax_execution.specs.Sums.{total};
 ghost use Rattle.ax_execution.specs.Contexts.{Running, Begun, Context};
 ghost use Rattle.ax_execution.specs.Origins.{Origin, IsOrigin};
-ghost use Rattle.ax_execution.specs.Machine.{Machine, Happening, Serve, Rules, happens, after_all, outcome, machine_from, machine_of, in_flight};
+ghost use Rattle.ax_execution.specs.Machine.{Machine, Happening, Serve, Rules, happens, after_all, outcome, machine_from, machine_of, in_flight, work};
 ghost use Rattle.ax_execution.specs.Counts.{epoch_count, number_count, reference_count};
 ghost use Rattle.ax_execution.specs.Allowed.{Allowed, IsRun};
 ghost use Rattle.ax_execution.specs.Tests.{allowed};
 ghost use Rattle.ax_execution.specs.ControlTurns.{contexts_on};
-ghost use Rattle.ax_execution.specs.MachineControls.{MachineControl, control_of_machine, at_origin, happens_on, answer_of_event, outcome_on, sent_entries, in_flight_on, control_of_epoch, epoch_count_on, control_numbered, number_count_on, control_references, reference_count_on};
+ghost use Rattle.ax_execution.specs.MachineControls.{MachineControl, control_of_machine, at_origin, happens_on, answer_of_event, outcome_on, sent_entries, in_flight_on, control_of_epoch, epoch_count_on, control_numbered, number_count_on, control_references, reference_count_on, control_work, work_on};
 ghost use Rattle.ax_execution.specs.ControlsAllowed.{AllowedOn, IsRunOn, after_all_on, with_answers, allowed_on, HoldBusy};
 ghost use Rattle.ax_execution.specs.ControlChanges.{enters, leaves, must_behind, serves};
 
@@ -86,4 +86,11 @@ pub fn epochs_gain_and_lose()
 pub fn callbacks_say_who_must_fire()
     ensures control { (r : Rules) (p : Program) (e : Happening) (a : Option Answer) (m : MachineControl) → AllowedOn r e m → (happens_on p e a m).must ≡ must_behind e (happens_on p e a m) }
     ensures machine { (r : Rules) (g : ℕ) (p : Program) (e : Happening) (m : Machine) → Allowed r e m → (happens g p e m).must ≡ must_behind e (control_of_machine (happens g p e m)) }
+{}
+
+/// The work left is computed from the control and the cells alone, and over any rising keys that hold the busy ones.
+pub fn work_sees_the_control()
+    ensures control { (p : Program) (m : Machine) → AreAccepted p → work_on p (λ k. (m.parts k).said.state.cells) (control_of_machine m) ≡ work p m }
+    ensures busy { (p : Program) (cells : Key → Cells) (m : MachineControl) (ks : List Key) → HoldBusy ks m → HoldBusy m.keys m
+        → total ks (λ k. control_work p (m.controls k) (cells k)) + length m.unsent ≡ work_on p cells m }
 {}
