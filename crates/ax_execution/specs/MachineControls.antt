@@ -106,7 +106,7 @@ happens_on p (Serve k slot) answer m = control_goes_on k m.must (keeps_answer sl
 happens_on p (Deliver k slot) answer m = calls_back_on k (deliver_on slot (m.controls k)) m
 happens_on p Send answer m = send_first_on m.unsent m
 
--- the answer that the cells give to the request that an event serves
+-- the answer that the cells give, where an event serves a request
 abbrev pub answer_of_event : Happening → Machine → Option Answer
 answer_of_event (Admit n k time values) m = None
 answer_of_event (Close c) m = None

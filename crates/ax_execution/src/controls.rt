@@ -62,7 +62,7 @@ pub fn busy_keys_are_enough()
         → HoldBusy (machine_of g p from es).keys (control_of_machine (machine_of g p from es)) }
 {}
 
-/// Only a serve changes cells, and only those of its key: by the request at its slot.
+/// Only a serve changes cells, and only those of its key: by what is asked at its slot.
 pub fn only_serves_change_cells()
     ensures others { (g : ℕ) (p : Program) (e : Happening) (m : Machine) (k : Key) → serves k e ≡ false → ((happens g p e m).parts k).said.state.cells ≡ (m.parts k).said.state.cells }
     ensures served { (g : ℕ) (p : Program) (m : Machine) (k : Key) (slot : ℕ) (c : Context) (running : Running) (q : Request)
