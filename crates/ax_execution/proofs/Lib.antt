@@ -18,6 +18,7 @@ pub mod Skips
 pub mod Projected
 pub mod Counts
 pub mod Alone
+pub mod AllKeys
 pub mod Falls
 pub mod Handles
 pub mod Kept

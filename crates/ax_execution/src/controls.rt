@@ -16,7 +16,7 @@ ghost use Rattle.ax_execution.specs.Allowed.{Allowed, IsRun};
 ghost use Rattle.ax_execution.specs.Tests.{allowed};
 ghost use Rattle.ax_execution.specs.ControlTurns.{contexts_on};
 ghost use Rattle.ax_execution.specs.MachineControls.{MachineControl, control_of_machine, at_origin, happens_on, answer_of_event, outcome_on, sent_entries, in_flight_on, control_of_epoch, epoch_count_on, control_numbered, number_count_on, control_references, reference_count_on, control_work, work_on};
-ghost use Rattle.ax_execution.specs.ControlsAllowed.{AllowedOn, IsRunOn, after_all_on, with_answers, allowed_on, HoldBusy};
+ghost use Rattle.ax_execution.specs.ControlsAllowed.{AllowedOn, IsRunOn, after_all_on, with_answers, allowed_on, HoldBusy, AreAllKeys};
 ghost use Rattle.ax_execution.specs.ControlChanges.{enters, leaves, must_behind, serves};
 
 /// The control of the machine behind an event is that event of its control, with the answer that the cells give where a request is
@@ -60,6 +60,13 @@ pub fn busy_keys_are_enough()
     ensures references { (n : ℕ) (ks : List Key) (m : MachineControl) → HoldBusy ks m → HoldBusy m.keys m → total ks (λ k. control_references n (m.controls k)) ≡ reference_count_on n m }
     ensures keys { (r : Rules) (g : ℕ) (p : Program) (from : Origin) (es : List Happening) → AreAccepted p → IsOrigin p from → IsRun r g p es (machine_from from)
         → HoldBusy (machine_of g p from es).keys (control_of_machine (machine_of g p from es)) }
+{}
+
+/// A control's keys are all that ever had anything: at an origin, and behind each event that is allowed. So they hold the busy ones.
+pub fn keys_stay_all()
+    ensures origin { (p : Program) (from : Origin) → IsOrigin p from → AreAllKeys (at_origin from) }
+    ensures event { (r : Rules) (p : Program) (e : Happening) (a : Option Answer) (m : MachineControl) → AreAllKeys m → AllowedOn r e m → AreAllKeys (happens_on p e a m) }
+    ensures busy { (m : MachineControl) → AreAllKeys m → HoldBusy m.keys m }
 {}
 
 /// Only a serve changes cells, and only those of its key: by what is asked at its slot.
