@@ -1,3 +1,5 @@
+pub mod SingleKeys
+pub mod ReachedLemmas
 pub mod Cases
 pub mod CellsKept
 pub mod EventControls

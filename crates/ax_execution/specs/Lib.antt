@@ -17,3 +17,4 @@ pub mod Tests
 pub mod ControlsAllowed
 pub mod ControlChanges
 pub mod Rows
+pub mod Reached
