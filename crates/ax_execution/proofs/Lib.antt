@@ -1,3 +1,5 @@
+pub mod KeyCases
+pub mod ControlWeights
 pub mod SingleKeys
 pub mod ReachedLemmas
 pub mod Cases

@@ -18,3 +18,4 @@ pub mod ControlsAllowed
 pub mod ControlChanges
 pub mod Rows
 pub mod Reached
+pub mod ContextCounts
