@@ -1,3 +1,7 @@
+pub mod KeyCases
+pub mod ControlWeights
+pub mod SingleKeys
+pub mod ReachedLemmas
 pub mod Cases
 pub mod CellsKept
 pub mod EventControls

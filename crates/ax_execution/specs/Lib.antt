@@ -17,3 +17,5 @@ pub mod Tests
 pub mod ControlsAllowed
 pub mod ControlChanges
 pub mod Rows
+pub mod Reached
+pub mod ContextCounts
