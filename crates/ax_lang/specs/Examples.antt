@@ -1,5 +1,5 @@
 -- Expressions of a few words.
-use Rattle.std.specs.Prelude.{ℕ, ℤ, List, [], ◌∷◌}
+use Rattle.std.specs.Prelude.{ℕ, List, [], ◌∷◌}
 use lib.Chars.{codes}
 use Rattle.ax_base.specs.Words.{words_of}
 use Rattle.ax_text.specs.declared.vocabulary.Atom.TheVariants as atom
