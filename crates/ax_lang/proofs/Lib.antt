@@ -14,3 +14,7 @@ pub mod ReadingLemmas
 pub mod FinishLemmas
 pub mod PrintLemmas
 pub mod BlockLemmas
+pub mod SpellingLemmas
+pub mod DepthLemmas
+pub mod LineLemmas
+pub mod ExampleLemmas

@@ -43,7 +43,7 @@ pub record NoFault (t : Tables) (s : Shape) : Type 0 where
   pub known : has_unknown t s ≡ false
   pub kind : has_wrong_kind t s ≡ false
 
-no_fault : (t : Tables) (s : Shape) → fault_in t s ≡ None → NoFault t s
+pub no_fault : (t : Tables) (s : Shape) → fault_in t s ≡ None → NoFault t s
 unfolding fault_in
 no_fault t s h =
     let a = if_none (not (may_stand t s)) fault.Word _ h in
@@ -227,7 +227,7 @@ pub record Reads (t : Tables) (s : Shape) : Type 0 where
   pub also : some_is (is_state t) (also_of s) ≡ false
   pub served : is_unserved t s ≡ false
 
-reads : (t : Tables) (s : Shape) → NoFault t s → Reads t s
+pub reads : (t : Tables) (s : Shape) → NoFault t s → Reads t s
 unfolding has_unknown has_wrong_kind
 reads t s f =
     let a = or_parts _ (is_unknown_use t s) f.known in

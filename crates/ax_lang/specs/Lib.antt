@@ -7,3 +7,5 @@ pub mod Clean
 pub mod Blocks
 pub mod Programs
 pub mod Laws
+pub mod Spelling
+pub mod Examples
