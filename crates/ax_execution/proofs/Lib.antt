@@ -4,6 +4,7 @@ pub mod EventControls
 pub mod ControlsAllowed
 pub mod ControlSums
 pub mod ControlChanges
+pub mod ControlOrder
 pub mod Asking
 pub mod GivenUp
 pub mod References

@@ -16,4 +16,5 @@ pub mod Allowed
 pub mod Tests
 pub mod ControlsAllowed
 pub mod ControlChanges
+pub mod ControlOrder
 pub mod Rows

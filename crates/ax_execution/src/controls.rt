@@ -17,6 +17,7 @@ ghost use Rattle.ax_execution.specs.Tests.{allowed};
 ghost use Rattle.ax_execution.specs.ControlTurns.{contexts_on};
 ghost use Rattle.ax_execution.specs.MachineControls.{MachineControl, control_of_machine, at_origin, happens_on, answer_of_event, outcome_on, sent_entries, in_flight_on, control_of_epoch, epoch_count_on, control_numbered, number_count_on, control_references, reference_count_on, control_work, work_on};
 ghost use Rattle.ax_execution.specs.ControlsAllowed.{AllowedOn, IsRunOn, after_all_on, with_answers, allowed_on, HoldBusy, AreAllKeys};
+ghost use Rattle.ax_execution.specs.ControlOrder.{IsInOrder};
 ghost use Rattle.ax_execution.specs.ControlChanges.{enters, leaves, must_behind, serves};
 
 /// The control of the machine behind an event is that event of its control, with the answer that the cells give where a request is
@@ -67,6 +68,16 @@ pub fn keys_stay_all()
     ensures origin { (p : Program) (from : Origin) → IsOrigin p from → AreAllKeys (at_origin from) }
     ensures event { (r : Rules) (p : Program) (e : Happening) (a : Option Answer) (m : MachineControl) → AreAllKeys m → AllowedOn r e m → AreAllKeys (happens_on p e a m) }
     ensures busy { (m : MachineControl) → AreAllKeys m → HoldBusy m.keys m }
+{}
+
+/// At an origin a control is in order, and it stays so behind each event that is allowed, whatever answers come: contexts in flight are at
+/// most the limit, a handler that has begun isn't done, the front mark of a key without owner may fire, rows wait only behind an owner or
+/// where their own key must fire, and for that firing there is room. So is the control of each run.
+pub fn controls_stay_in_order()
+    ensures origin { (r : Rules) (p : Program) (from : Origin) → IsOrigin p from → IsInOrder r (at_origin from) }
+    ensures event { (r : Rules) (p : Program) (e : Happening) (a : Option Answer) (m : MachineControl) → IsInOrder r m → AllowedOn r e m → IsInOrder r (happens_on p e a m) }
+    ensures run { (r : Rules) (g : ℕ) (p : Program) (from : Origin) (es : List Happening) → AreAccepted p → IsOrigin p from → IsRun r g p es (machine_from from)
+        → IsInOrder r (control_of_machine (machine_of g p from es)) }
 {}
 
 /// Only a serve changes cells, and only those of its key: by what is asked at its slot.
