@@ -75,7 +75,7 @@ order_from r m o rises = record {
 
 -- to a machine with this control, whose cells are empty and which has said nothing
 
-bare_machine : MachineControl → Machine
+unfoldable pub bare_machine : MachineControl → Machine
 bare_machine m = record { wm = m.wm; epoch = m.epoch; keys = m.keys; parts = λ k. bare (m.controls k); must = m.must; unsent = m.unsent; written = [] }
 
 goes_to : (o : Option Context) → OwnerGoesOn o → IsAwake o
@@ -98,7 +98,7 @@ unfolding IsOrdered
 ordered_to must k None is times f g = (front_to is times (f refl), g refl)
 ordered_to must k (Some c) is times f g = tt
 
-order_to : (r : Rules) (m : MachineControl) → IsInOrder r m → IsOrderly r (bare_machine m)
+pub order_to : (r : Rules) (m : MachineControl) → IsInOrder r m → IsOrderly r (bare_machine m)
 unfolding bare_machine
 order_to r m o = record {
   sound = record {
@@ -110,7 +110,7 @@ order_to r m o = record {
   absent = λ k h. record { owner = (o.keys.others k h).owner; waiting = (o.keys.others k h).waiting; times = o.keys.times k h };
 }
 
-same_control : (r : Rules) (m : MachineControl) → IsInOrder r m → control_of_machine (bare_machine m) ≡ m
+pub same_control : (r : Rules) (m : MachineControl) → IsInOrder r m → control_of_machine (bare_machine m) ≡ m
 unfolding bare_machine
 same_control r m o = λ i. record {
   wm = m.wm;

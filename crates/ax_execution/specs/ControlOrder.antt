@@ -1,8 +1,11 @@
 -- What holds of each control at an origin, and stays so behind each event that is allowed, whatever the answers.
-use Rattle.std.specs.Prelude.{◌≡◌, ◌≤◌, ◌<◌, ℤ, List, [], ◌∷◌, true, false, Option, Some, None, ◌⊎◌}
-use Rattle.ax_text.specs.Controls.{is_done}
+use Rattle.std.specs.Prelude.{◌≡◌, ℕ, ◌≤◌, ◌<◌, ℤ, List, [], ◌∷◌, true, false, Option, Some, None, ◌⊎◌}
+use Rattle.ax_text.specs.Prints.{has}
+use Rattle.ax_text.specs.Controls.{is_done, slots}
+use Rattle.ax_text.specs.Footprints.{ControlFits}
+use Rattle.ax_text.specs.Sound.{everything, Split, IsWakeful}
 use Rattle.ax_machine.specs.Entries.{Key}
-use Rattle.ax_execution.specs.Contexts.{Stage, Unbegun, Begun, Context, Waiting, Row, Mark, rows_in, may_fire}
+use Rattle.ax_execution.specs.Contexts.{Running, Stage, Unbegun, Begun, Context, Waiting, Row, Mark, rows_in, may_fire}
 use Rattle.ax_execution.specs.Rest.{silent}
 use Rattle.ax_execution.specs.ControlTurns.{is_idle_on}
 use Rattle.ax_execution.specs.Machine.{Rules}
@@ -34,3 +37,21 @@ pub record IsInOrder (r : Rules) (m : MachineControl) : Type 0 where
   -- rows wait behind an owner, or where their key must fire
   pub rows : (k : Key) → (m.controls k).owner ≡ None → (rows_in (m.controls k).waiting ≡ 0) ⊎ (m.must ≡ Some k)
   pub room : (k : Key) → m.must ≡ Some k → (is_idle_on (m.controls k) ≡ true) × (in_flight_on m < r.limit)
+
+-- a handler on its way: its arms are apart and wait at different slots, it waits unless it is done, and answers stand only where it waits
+pub record IsSoundRunning (r : Running) : Type 0 where
+  pub fits : ControlFits r.control everything
+  pub split : Split r.control
+  pub wakeful : IsWakeful r.control
+  pub blank : (s : ℕ) → has s (slots r.control) ≡ false → r.answers s ≡ None
+
+abbrev pub StageIsSound : Stage → Type 0
+StageIsSound Unbegun = Unit {0}
+StageIsSound (Begun r) = IsSoundRunning r
+
+abbrev pub OwnerIsSound : Option Context → Type 0
+OwnerIsSound None = Unit {0}
+OwnerIsSound (Some c) = StageIsSound c.stage
+
+abbrev pub AreSound : MachineControl → Type 0
+AreSound m = (k : Key) → OwnerIsSound (m.controls k).owner
