@@ -8,6 +8,9 @@ pub mod EventControls
 pub mod ControlsAllowed
 pub mod ControlSums
 pub mod ControlChanges
+pub mod ControlCounts
+pub mod ControlOrder
+pub mod ControlSound
 pub mod Asking
 pub mod GivenUp
 pub mod References

@@ -4,20 +4,21 @@ ghost use Rattle.ax_text.specs.declared.vocabulary.Answer.{Answer};
 ghost use Rattle.ax_text.specs.declared.vocabulary.Request.{Request};
 ghost use Rattle.ax_text.specs.Cells.{Cells, cells_after};
 ghost use Rattle.ax_text.specs.Programs.{Program};
-ghost use Rattle.ax_text.specs.Controls.{request_at};
+ghost use Rattle.ax_text.specs.Controls.{request_at, slots};
 ghost use Rattle.ax_machine.specs.Entries.{Key};
 ghost use Rattle.ax_execution.specs.Accepted.{AreAccepted};
 ghost use Rattle.ax_execution.specs.Sums.{total};
 ghost use Rattle.ax_execution.specs.Contexts.{Running, Begun, Context};
 ghost use Rattle.ax_execution.specs.Origins.{Origin, IsOrigin};
 ghost use Rattle.ax_execution.specs.Machine.{Machine, Happening, Serve, Rules, happens, after_all, outcome, machine_from, machine_of, in_flight, work};
-ghost use Rattle.ax_execution.specs.Counts.{epoch_count, number_count, reference_count};
+ghost use Rattle.ax_execution.specs.Counts.{AreDistinct, epoch_count, number_count, reference_count, one_if_gone, made, made_as, counted};
 ghost use Rattle.ax_execution.specs.Allowed.{Allowed, IsRun};
 ghost use Rattle.ax_execution.specs.Tests.{allowed};
 ghost use Rattle.ax_execution.specs.ControlTurns.{contexts_on};
 ghost use Rattle.ax_execution.specs.MachineControls.{MachineControl, control_of_machine, at_origin, happens_on, answer_of_event, outcome_on, sent_entries, in_flight_on, control_of_epoch, epoch_count_on, control_numbered, number_count_on, control_references, reference_count_on, control_work, work_on};
 ghost use Rattle.ax_execution.specs.ControlsAllowed.{AllowedOn, IsRunOn, after_all_on, with_answers, allowed_on, HoldBusy, AreAllKeys};
-ghost use Rattle.ax_execution.specs.ControlChanges.{enters, leaves, must_behind, serves};
+ghost use Rattle.ax_execution.specs.ControlOrder.{IsInOrder, IsSoundRunning, AreSound};
+ghost use Rattle.ax_execution.specs.ControlChanges.{enters, leaves, must_behind, serves, calls_on};
 
 /// The control of the machine behind an event is that event of its control, with the answer that the cells give where a request is
 /// served; so is that behind many events, and that at an origin.
@@ -44,7 +45,7 @@ pub fn allowed_sees_the_control()
     ensures is_run { (r : Rules) (g : ℕ) (p : Program) (es : List Happening) (m : Machine) → IsRunOn r p (with_answers g p es m) (control_of_machine m) → IsRun r g p es m }
 {}
 
-/// So are the contexts in flight, the rows and marks of an epoch, and the contexts and references of a number.
+/// The contexts in flight, the rows and marks of an epoch, and the contexts and references of a number are seen of the control.
 pub fn counts_see_the_control()
     ensures flight { (m : Machine) → in_flight_on (control_of_machine m) ≡ in_flight m }
     ensures epochs { (u : ℕ) (m : Machine) → epoch_count_on u (control_of_machine m) ≡ epoch_count u m }
@@ -52,7 +53,7 @@ pub fn counts_see_the_control()
     ensures references { (n : ℕ) (m : Machine) → reference_count_on n (control_of_machine m) ≡ reference_count n m }
 {}
 
-/// The same sums come of any rising keys that hold each key with an owner or with something that waits. The keys of rows do.
+/// These counts are the same over any rising keys that hold each key with an owner or with something that waits. The keys of rows do.
 pub fn busy_keys_are_enough()
     ensures flight { (ks : List Key) (m : MachineControl) → HoldBusy ks m → HoldBusy m.keys m → total ks (λ k. contexts_on (m.controls k)) ≡ in_flight_on m }
     ensures epochs { (u : ℕ) (ks : List Key) (m : MachineControl) → HoldBusy ks m → HoldBusy m.keys m → total ks (λ k. control_of_epoch u (m.controls k)) ≡ epoch_count_on u m }
@@ -67,6 +68,38 @@ pub fn keys_stay_all()
     ensures origin { (p : Program) (from : Origin) → IsOrigin p from → AreAllKeys (at_origin from) }
     ensures event { (r : Rules) (p : Program) (e : Happening) (a : Option Answer) (m : MachineControl) → AreAllKeys m → AllowedOn r e m → AreAllKeys (happens_on p e a m) }
     ensures busy { (m : MachineControl) → AreAllKeys m → HoldBusy m.keys m }
+{}
+
+/// At an origin a control is in order, and it stays so behind each event that is allowed, whatever answers come: contexts in flight are at
+/// most the limit, a handler that has begun isn't done, the front mark of a key without owner may fire, rows wait only behind an owner or
+/// where their own key must fire, and for that firing there is room. So is the control of each run.
+pub fn controls_stay_in_order()
+    ensures origin { (r : Rules) (p : Program) (from : Origin) → IsOrigin p from → IsInOrder r (at_origin from) }
+    ensures event { (r : Rules) (p : Program) (e : Happening) (a : Option Answer) (m : MachineControl) → IsInOrder r m → AllowedOn r e m → IsInOrder r (happens_on p e a m) }
+    ensures run { (r : Rules) (g : ℕ) (p : Program) (from : Origin) (es : List Happening) → AreAccepted p → IsOrigin p from → IsRun r g p es (machine_from from)
+        → IsInOrder r (control_of_machine (machine_of g p from es)) }
+{}
+
+/// Whatever answers come, the arms of a handler on its way stay apart and wait at different slots, it waits unless it is done, and answers
+/// stand only at slots that wait. So it is in the control of each run.
+pub fn handlers_stay_sound()
+    ensures origin { (from : Origin) → AreSound (at_origin from) }
+    ensures event { (r : Rules) (p : Program) (e : Happening) (a : Option Answer) (m : MachineControl) → AreAccepted p → AreSound m → AllowedOn r e m → AreSound (happens_on p e a m) }
+    ensures slots { (running : Running) → IsSoundRunning running → AreDistinct (slots running.control) }
+    ensures run { (r : Rules) (g : ℕ) (p : Program) (from : Origin) (es : List Happening) → AreAccepted p → IsOrigin p from → IsRun r g p es (machine_from from)
+        → AreSound (control_of_machine (machine_of g p from es)) }
+{}
+
+/// In a control that is in order and whose handlers are sound, Admit and Fire make one context, one is given up exactly where the outcome
+/// says so, and references rise by what is asked and fall by one as a callback ends. Nothing else changes how many contexts are in flight
+/// or have a number, nor their references.
+pub fn contexts_come_and_go()
+    ensures flight { (r : Rules) (p : Program) (e : Happening) (a : Option Answer) (m : MachineControl) → IsInOrder r m → AreSound m → AllowedOn r e m
+        → in_flight_on (happens_on p e a m) + one_if_gone (outcome_on p e m).gone ≡ in_flight_on m + made e }
+    ensures numbers { (r : Rules) (p : Program) (n : ℕ) (e : Happening) (a : Option Answer) (m : MachineControl) → IsInOrder r m → AreSound m → AllowedOn r e m
+        → number_count_on n (happens_on p e a m) + counted (calls_on n e m) (one_if_gone (outcome_on p e m).gone) ≡ number_count_on n m + made_as n e }
+    ensures references { (r : Rules) (p : Program) (n : ℕ) (e : Happening) (a : Option Answer) (m : MachineControl) → IsInOrder r m → AreSound m → AllowedOn r e m
+        → reference_count_on n (happens_on p e a m) + counted (calls_on n e m) 1 ≡ reference_count_on n m + (made_as n e + counted (calls_on n e m) (length (outcome_on p e m).asks)) }
 {}
 
 /// Only a serve changes cells, and only those of its key: by what is asked at its slot.
