@@ -7,6 +7,7 @@ pub mod TokenLemmas
 pub mod ExprLemmas
 pub mod ShapeLemmas
 pub mod NameLemmas
+pub mod CountLemmas
 pub mod SoundLemmas
 pub mod DeclLemmas
 pub mod AcceptedLemmas

@@ -96,10 +96,6 @@ tree_names ms t e = ap (λ (o : Option Expr). names_in (tree_or o)) e ∙ subst 
 
 -- words
 
-some_or_none : {A : Type 0} (o : Option A) → is_some o ≡ false → o ≡ None
-some_or_none None h = refl
-some_or_none (Some x) h = absurd (true≢false h)
-
 is_none_none : {A : Type 0} (o : Option A) → is_none o ≡ true → o ≡ None
 is_none_none None h = refl
 is_none_none (Some x) h = absurd (false≢true h)

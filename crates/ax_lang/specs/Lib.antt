@@ -1,5 +1,6 @@
 pub mod Forms
 pub mod Steps
+pub mod Names
 pub mod Links
 pub mod Shown
 pub mod Rows
