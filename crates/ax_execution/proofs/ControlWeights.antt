@@ -1,5 +1,5 @@
 -- What each event does to sums over the controls of all keys: how many contexts there are, how many have a number, how many references they have.
-use Rattle.std.proofs.Common.{◌≡◌, ℕ, suc, ◌+◌, nat_eq, ℤ, pos, List, [], ◌∷◌, ◌++◌, length, Bool, true, false, cond, Option, Some, None, refl, sym, ap, ap₂, ◌∙◌, arith, subst}
+use Rattle.std.proofs.Common.{◌≡◌, ℕ, ◌+◌, nat_eq, ℤ, pos, List, [], ◌∷◌, ◌++◌, length, Bool, true, false, cond, Option, Some, None, refl, sym, ap, ap₂, ◌∙◌, arith, subst}
 use Rattle.std.specs.Str.{bytes_eq}
 use Rattle.std.specs.List.{list_any}
 use Rattle.std.specs.BTreeSet.{insert_key}
@@ -17,7 +17,7 @@ use Rattle.ax_machine.specs.Entries.{Key}
 use Rattle.ax_machine.specs.Firings.{most_firings}
 use Rattle.ax_execution.specs.Sums.{total}
 use Rattle.ax_execution.specs.Groups.{row_facts, on_row}
-use Rattle.ax_execution.specs.Contexts.{Running, Unbegun, Begun, Context, new_context, row_context, Waiting, Row, Mark, owners, rows_in, may_fire, is_idle_with}
+use Rattle.ax_execution.specs.Contexts.{Running, Unbegun, Begun, Context, new_context, Waiting, Row, Mark, owners, rows_in, may_fire, is_idle_with}
 use Rattle.ax_execution.specs.Counts.{references, one_at, owner_numbered, rows_numbered, owner_references, one_if_gone, made, made_as, owns, counted}
 use Rattle.ax_execution.specs.Turns.{staged, begins, gives, Effects, effects_of, owner_starts, owner_gives}
 use Rattle.ax_execution.specs.KeyControls.{KeyControl, keeps_answer}
@@ -28,7 +28,7 @@ use Rattle.ax_execution.specs.ControlsAllowed.{AllowedOn, IsAnswered, IsFreeOn, 
 use Rattle.ax_execution.specs.Allowed.{StageUnbegun, StageAsks, StageHas, OfOwner}
 use Rattle.ax_execution.specs.Reached.{owed_to, owed_in}
 use Rattle.ax_execution.specs.ContextCounts.{calls_on, is_free_with, is_free_on, owed_more, owed_less}
-use Rattle.ax_execution.proofs.Upto.{by_cases, StageGood, OwnerGood}
+use Rattle.ax_execution.proofs.Upto.{by_cases, OwnerGood}
 use Rattle.ax_execution.proofs.KeySums.{total_same}
 use Rattle.ax_execution.proofs.Stuck.{FrontFires}
 use Rattle.ax_execution.proofs.Handlers.{Good, waits_here}

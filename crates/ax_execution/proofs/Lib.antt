@@ -1,3 +1,5 @@
+pub mod ReachedOrderly
+pub mod KeysHold
 pub mod KeyCases
 pub mod ControlWeights
 pub mod SingleKeys

@@ -1,5 +1,5 @@
 -- What an event changes of how many contexts there are, as of the control of the machine.
-use Rattle.std.specs.Prelude.{ℕ, ◌+◌, List, [], ◌∷◌, length, Bool, true, false, Option, Some, None}
+use Rattle.std.specs.Prelude.{ℕ, ◌+◌, List, [], length, Bool, true, false, Option, None}
 use Rattle.ax_text.specs.Programs.{Program}
 use Rattle.ax_execution.specs.Contexts.{Context, Waiting, owners}
 use Rattle.ax_execution.specs.Counts.{owns, counted}
