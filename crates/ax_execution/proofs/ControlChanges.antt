@@ -199,10 +199,10 @@ pub free_epoch : (u : ℕ) (c : KeyControl) → IsFreeOn c → control_of_epoch 
 free_epoch u c h = ap₂ (λ (o : Option Context) (is : List Waiting). owner_of_epoch u o + waiting_of_epoch u is) h.owner h.waiting
 
 module _ (m : MachineControl) (busy : HoldBusy m.keys m) where
-  owned_known : (P : Stage → Type 0) (k : Key) → OfOwner P (m.controls k).owner → list_any (bytes_eq k) m.keys ≡ true
+  pub owned_known : (P : Stage → Type 0) (k : Key) → OfOwner P (m.controls k).owner → list_any (bytes_eq k) m.keys ≡ true
   owned_known P k h = by_cases (list_any (bytes_eq k) m.keys) (λ x. x) (λ x. absurd (subst (OfOwner P) (busy.others k x).owner h))
 
-  idle_known : (k : Key) → is_idle_on (m.controls k) ≡ true → list_any (bytes_eq k) m.keys ≡ true
+  pub idle_known : (k : Key) → is_idle_on (m.controls k) ≡ true → list_any (bytes_eq k) m.keys ≡ true
   idle_known k h = by_cases (list_any (bytes_eq k) m.keys) (λ x. x)
       (λ x. absurd (true_false (sym h ∙ ap₂ is_idle_with (busy.others k x).owner (busy.others k x).waiting)))
 

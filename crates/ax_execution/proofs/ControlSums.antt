@@ -1,5 +1,5 @@
 -- Sums over the controls of keys: over any rising keys that hold the busy ones, and how they change.
-use Rattle.std.proofs.Common.{◌≡◌, ℕ, ◌+◌, List, [], ◌∷◌, true, false, cond, refl, sym, ap, ◌∙◌, arith}
+use Rattle.std.proofs.Common.{◌≡◌, ℕ, ◌+◌, List, [], ◌∷◌, true, false, cond, refl, sym, ap, ◌∙◌, arith, length, Option, ap₂}
 use Rattle.std.proofs.lemmas.Bool.{cond-true, cond-false}
 use Rattle.std.specs.Str.{bytes_eq}
 use Rattle.std.specs.List.{list_any}
@@ -10,7 +10,10 @@ use Rattle.ax_machine.specs.Entries.{Key}
 use Rattle.ax_machine.proofs.FiringLemmas.{key_is, same_key}
 use Rattle.ax_execution.specs.Sums.{total}
 use Rattle.ax_execution.specs.KeyControls.{KeyControl}
-use Rattle.ax_execution.specs.MachineControls.{MachineControl, control_at}
+use Rattle.ax_text.specs.Cells.{Cells}
+use Rattle.ax_text.specs.Programs.{Program}
+use Rattle.ax_execution.specs.Contexts.{Context, Waiting}
+use Rattle.ax_execution.specs.MachineControls.{MachineControl, control_at, control_work, work_on}
 use Rattle.ax_execution.specs.ControlsAllowed.{IsFreeOn, HoldBusy}
 use Rattle.ax_execution.proofs.Upto.{by_cases}
 use Rattle.ax_execution.proofs.KeySums.{once_from, changes, inserted_total, inserted_again}
@@ -93,3 +96,12 @@ module _ (share : KeyControl → ℕ) (none : (c : KeyControl) → IsFreeOn c �
       let d : total (insert_key key_cmp m.keys k) (λ j. share (control_at m.controls k q j)) ≡ share (control_at m.controls k q k) + total m.keys (λ j. share (control_at m.controls k q j)) =
       inserted_total k m.keys (λ j. share (control_at m.controls k q j)) x in
       omega arith)
+
+-- the work left
+
+free_work : (p : Program) (c : KeyControl) (cells : Cells) → IsFreeOn c → control_work p c cells ≡ 0
+free_work p c cells h = ap₂ (λ (o : Option Context) (is : List Waiting). control_work p (record { owner = o; waiting = is; times = c.times }) cells) h.owner h.waiting
+
+pub busy_work : (p : Program) (cells : Key → Cells) (m : MachineControl) (ks : List Key) → HoldBusy ks m → HoldBusy m.keys m → total ks (λ k. control_work p (m.controls k) (cells k)) + length m.unsent ≡ work_on p cells m
+busy_work p cells m ks a b = ap (λ (n : ℕ). n + length m.unsent) (same_total ks m.keys (λ k. control_work p (m.controls k) (cells k)) a.rise b.rise
+    (λ k h. free_work p (m.controls k) (cells k) (a.others k h)) (λ k h. free_work p (m.controls k) (cells k) (b.others k h)))

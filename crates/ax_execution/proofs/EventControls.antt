@@ -128,7 +128,7 @@ must_control k part = ap (λ (b : Bool). cond b (Some k) None) (sym (idle_silent
 at_control : (parts : Key → Part) (k : Key) (part : Part) (c : KeyControl) → control_of part ≡ c → (q : Key) → control_of (part_at parts k part q) ≡ control_at (λ j. control_of (parts j)) k c q
 at_control parts k part c e q = if_control (bytes_eq k q) part (parts q) c (control_of (parts q)) e refl
 
-goes_control : (k : Key) (must next : Option Key) (lines : List (List ℤ)) (part : Part) (c : KeyControl) (m : Machine) → must ≡ next → control_of part ≡ c
+pub goes_control : (k : Key) (must next : Option Key) (lines : List (List ℤ)) (part : Part) (c : KeyControl) (m : Machine) → must ≡ next → control_of part ≡ c
     → control_of_machine (goes_on k must lines part m) ≡ control_goes_on k next c (control_of_machine m)
 goes_control k must next lines part c m e f =
     λ i. record { wm = m.wm; epoch = m.epoch; keys = m.keys; unsent = m.unsent; controls = λ q. at_control m.parts k part c f q i; must = e i }

@@ -10,6 +10,9 @@ pub mod EventControls
 pub mod ControlsAllowed
 pub mod ControlSums
 pub mod ControlChanges
+pub mod ControlCounts
+pub mod ControlOrder
+pub mod ControlSound
 pub mod Asking
 pub mod GivenUp
 pub mod References
@@ -24,6 +27,7 @@ pub mod Skips
 pub mod Projected
 pub mod Counts
 pub mod Alone
+pub mod AllKeys
 pub mod Falls
 pub mod Handles
 pub mod Kept

@@ -128,10 +128,10 @@ deliver_leaves k slot q h = deliver_of k slot q.owner q.waiting q.said h
 
 -- a request is served
 
-record StaysOwned (must : Option Key) (k : Key) (a b : Part) : Type 0 where
-  awake : IsAwake b.owner
-  ordered : IsOrdered must k b.owner b.waiting b.said.state.times
-  count : contexts_in b ≤ contexts_in a
+pub record StaysOwned (must : Option Key) (k : Key) (a b : Part) : Type 0 where
+  pub awake : IsAwake b.owner
+  pub ordered : IsOrdered must k b.owner b.waiting b.said.state.times
+  pub count : contexts_in b ≤ contexts_in a
 
 serve_with : (must : Option Key) (k : Key) (c : Context) (r : Running) (slot : ℕ) (o : Option Request) (is : List Waiting) (s : Said) → is_done r.control ≡ false
     → StaysOwned must k (part_of (Some (staged c (Begun r))) is s) (serve_request c r slot o (part_of (Some (staged c (Begun r))) is s))
@@ -339,7 +339,7 @@ module _ (r : Rules) (m : Machine) (o : IsOrderly r m) (rises : IsStrictlySorted
       room j false i h = absurd (none_some h)
 
   -- Serve
-  serve_orderly : (k : Key) (q : Part) → m.must ≡ None → list_any (bytes_eq k) m.keys ≡ true → StaysOwned m.must k (m.parts k) q → IsOrderly r (goes_on k m.must [] q m)
+  pub serve_orderly : (k : Key) (q : Part) → m.must ≡ None → list_any (bytes_eq k) m.keys ≡ true → StaysOwned m.must k (m.parts k) q → IsOrderly r (goes_on k m.must [] q m)
   serve_orderly k q none there l = record {
     sound = record {
       awake = at_part (λ (j : Key) (x : Part). IsAwake x.owner) m.parts k q l.awake (λ j x. o.sound.awake j);

@@ -1,23 +1,24 @@
 //! Laws of the control: what of the machine a controller knows goes on by itself, whatever cells gave the answers.
-ghost use Rattle.std.specs.Prelude.{◌≡◌, ℕ, ◌+◌, List, ◌++◌, false, Option, Some};
+ghost use Rattle.std.specs.Prelude.{◌≡◌, ℕ, ◌+◌, List, ◌++◌, length, false, Option, Some};
 ghost use Rattle.ax_text.specs.declared.vocabulary.Answer.{Answer};
 ghost use Rattle.ax_text.specs.declared.vocabulary.Request.{Request};
-ghost use Rattle.ax_text.specs.Cells.{cells_after};
+ghost use Rattle.ax_text.specs.Cells.{Cells, cells_after};
 ghost use Rattle.ax_text.specs.Programs.{Program};
-ghost use Rattle.ax_text.specs.Controls.{request_at};
+ghost use Rattle.ax_text.specs.Controls.{request_at, slots};
 ghost use Rattle.ax_machine.specs.Entries.{Key};
 ghost use Rattle.ax_execution.specs.Accepted.{AreAccepted};
 ghost use Rattle.ax_execution.specs.Sums.{total};
 ghost use Rattle.ax_execution.specs.Contexts.{Running, Begun, Context};
 ghost use Rattle.ax_execution.specs.Origins.{Origin, IsOrigin};
-ghost use Rattle.ax_execution.specs.Machine.{Machine, Happening, Serve, Rules, happens, after_all, outcome, machine_from, machine_of, in_flight};
-ghost use Rattle.ax_execution.specs.Counts.{epoch_count, number_count, reference_count};
+ghost use Rattle.ax_execution.specs.Machine.{Machine, Happening, Serve, Rules, happens, after_all, outcome, machine_from, machine_of, in_flight, work};
+ghost use Rattle.ax_execution.specs.Counts.{AreDistinct, epoch_count, number_count, reference_count, one_if_gone, made, made_as, counted};
 ghost use Rattle.ax_execution.specs.Allowed.{Allowed, IsRun};
 ghost use Rattle.ax_execution.specs.Tests.{allowed};
 ghost use Rattle.ax_execution.specs.ControlTurns.{contexts_on};
-ghost use Rattle.ax_execution.specs.MachineControls.{MachineControl, control_of_machine, at_origin, happens_on, answer_of_event, outcome_on, sent_entries, in_flight_on, control_of_epoch, epoch_count_on, control_numbered, number_count_on, control_references, reference_count_on};
-ghost use Rattle.ax_execution.specs.ControlsAllowed.{AllowedOn, IsRunOn, after_all_on, with_answers, allowed_on, HoldBusy};
-ghost use Rattle.ax_execution.specs.ControlChanges.{enters, leaves, must_behind, serves};
+ghost use Rattle.ax_execution.specs.MachineControls.{MachineControl, control_of_machine, at_origin, happens_on, answer_of_event, outcome_on, sent_entries, in_flight_on, control_of_epoch, epoch_count_on, control_numbered, number_count_on, control_references, reference_count_on, control_work, work_on};
+ghost use Rattle.ax_execution.specs.ControlsAllowed.{AllowedOn, IsRunOn, after_all_on, with_answers, allowed_on, HoldBusy, AreAllKeys};
+ghost use Rattle.ax_execution.specs.ControlOrder.{IsInOrder, IsSoundRunning, AreSound};
+ghost use Rattle.ax_execution.specs.ControlChanges.{enters, leaves, must_behind, serves, calls_on};
 
 /// The control of the machine behind an event is that event of its control, with the answer that the cells give where a request is
 /// served; so is that behind many events, and that at an origin.
@@ -62,7 +63,45 @@ pub fn busy_keys_are_enough()
         → HoldBusy (machine_of g p from es).keys (control_of_machine (machine_of g p from es)) }
 {}
 
-/// Only a serve changes cells, and only those of its key: by the request at its slot.
+/// A control's keys are all that ever had anything: at an origin, and behind each event that is allowed. So they hold the busy ones.
+pub fn keys_stay_all()
+    ensures origin { (p : Program) (from : Origin) → IsOrigin p from → AreAllKeys (at_origin from) }
+    ensures event { (r : Rules) (p : Program) (e : Happening) (a : Option Answer) (m : MachineControl) → AreAllKeys m → AllowedOn r e m → AreAllKeys (happens_on p e a m) }
+    ensures busy { (m : MachineControl) → AreAllKeys m → HoldBusy m.keys m }
+{}
+
+/// At an origin a control is in order, and it stays so behind each event that is allowed, whatever answers come: contexts in flight are at
+/// most the limit, a handler that has begun isn't done, the front mark of a key without owner may fire, rows wait only behind an owner or
+/// where their own key must fire, and for that firing there is room. So is the control of each run.
+pub fn controls_stay_in_order()
+    ensures origin { (r : Rules) (p : Program) (from : Origin) → IsOrigin p from → IsInOrder r (at_origin from) }
+    ensures event { (r : Rules) (p : Program) (e : Happening) (a : Option Answer) (m : MachineControl) → IsInOrder r m → AllowedOn r e m → IsInOrder r (happens_on p e a m) }
+    ensures run { (r : Rules) (g : ℕ) (p : Program) (from : Origin) (es : List Happening) → AreAccepted p → IsOrigin p from → IsRun r g p es (machine_from from)
+        → IsInOrder r (control_of_machine (machine_of g p from es)) }
+{}
+
+/// Whatever answers come, the arms of a handler on its way stay apart and wait at different slots, it waits unless it is done, and answers
+/// stand only at slots that wait. So it is in the control of each run.
+pub fn handlers_stay_sound()
+    ensures origin { (from : Origin) → AreSound (at_origin from) }
+    ensures event { (r : Rules) (p : Program) (e : Happening) (a : Option Answer) (m : MachineControl) → AreAccepted p → AreSound m → AllowedOn r e m → AreSound (happens_on p e a m) }
+    ensures slots { (running : Running) → IsSoundRunning running → AreDistinct (slots running.control) }
+    ensures run { (r : Rules) (g : ℕ) (p : Program) (from : Origin) (es : List Happening) → AreAccepted p → IsOrigin p from → IsRun r g p es (machine_from from)
+        → AreSound (control_of_machine (machine_of g p from es)) }
+{}
+
+/// In such a control Admit and Fire make one context, one is given up exactly where the outcome says so, and references rise by what is
+/// asked and fall by one as a callback ends. Nothing else changes how many contexts are in flight or have a number, nor their references.
+pub fn contexts_come_and_go()
+    ensures flight { (r : Rules) (p : Program) (e : Happening) (a : Option Answer) (m : MachineControl) → IsInOrder r m → AreSound m → AllowedOn r e m
+        → in_flight_on (happens_on p e a m) + one_if_gone (outcome_on p e m).gone ≡ in_flight_on m + made e }
+    ensures numbers { (r : Rules) (p : Program) (n : ℕ) (e : Happening) (a : Option Answer) (m : MachineControl) → IsInOrder r m → AreSound m → AllowedOn r e m
+        → number_count_on n (happens_on p e a m) + counted (calls_on n e m) (one_if_gone (outcome_on p e m).gone) ≡ number_count_on n m + made_as n e }
+    ensures references { (r : Rules) (p : Program) (n : ℕ) (e : Happening) (a : Option Answer) (m : MachineControl) → IsInOrder r m → AreSound m → AllowedOn r e m
+        → reference_count_on n (happens_on p e a m) + counted (calls_on n e m) 1 ≡ reference_count_on n m + (made_as n e + counted (calls_on n e m) (length (outcome_on p e m).asks)) }
+{}
+
+/// Only a serve changes cells, and only those of its key: by what is asked at its slot.
 pub fn only_serves_change_cells()
     ensures others { (g : ℕ) (p : Program) (e : Happening) (m : Machine) (k : Key) → serves k e ≡ false → ((happens g p e m).parts k).said.state.cells ≡ (m.parts k).said.state.cells }
     ensures served { (g : ℕ) (p : Program) (m : Machine) (k : Key) (slot : ℕ) (c : Context) (running : Running) (q : Request)
@@ -86,4 +125,11 @@ pub fn epochs_gain_and_lose()
 pub fn callbacks_say_who_must_fire()
     ensures control { (r : Rules) (p : Program) (e : Happening) (a : Option Answer) (m : MachineControl) → AllowedOn r e m → (happens_on p e a m).must ≡ must_behind e (happens_on p e a m) }
     ensures machine { (r : Rules) (g : ℕ) (p : Program) (e : Happening) (m : Machine) → Allowed r e m → (happens g p e m).must ≡ must_behind e (control_of_machine (happens g p e m)) }
+{}
+
+/// The work left is computed from the control and the cells alone, and over any rising keys that hold the busy ones.
+pub fn work_sees_the_control()
+    ensures control { (p : Program) (m : Machine) → AreAccepted p → work_on p (λ k. (m.parts k).said.state.cells) (control_of_machine m) ≡ work p m }
+    ensures busy { (p : Program) (cells : Key → Cells) (m : MachineControl) (ks : List Key) → HoldBusy ks m → HoldBusy m.keys m
+        → total ks (λ k. control_work p (m.controls k) (cells k)) + length m.unsent ≡ work_on p cells m }
 {}

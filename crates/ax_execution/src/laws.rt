@@ -27,7 +27,8 @@ ghost use Rattle.ax_execution.specs.Machine.{Machine, Happening, Start, Serve, D
 ghost use Rattle.ax_execution.specs.Allowed.{NoneIsIdle, IsFinished, Allowed, IsRun};
 ghost use Rattle.ax_execution.specs.Counts.{AreDistinct, one_if_gone, references, reference_count, epoch_count, number_count, made, made_as, calls, counted};
 ghost use Rattle.ax_execution.specs.Merges.{merge, firings_at};
-ghost use Rattle.ax_execution.specs.Asks.{owner_waits, waits_behind, SlotsRise, AreOutside, slots_beside};
+ghost use Rattle.ax_text.specs.Underway.{SlotsRise};
+ghost use Rattle.ax_execution.specs.Asks.{owner_waits, waits_behind, AreOutside, slots_beside};
 ghost use Rattle.ax_execution.specs.Tests.{allowed, runs};
 
 /// Before the first event is an origin, and the plain threads from there are the plain threads.

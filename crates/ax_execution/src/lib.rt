@@ -9,4 +9,4 @@ pub mod controls;
 pub mod laws;
 pub mod rows;
 
-pub use constants::first_epoch;
+pub use constants::{first_epoch, next_epoch};

@@ -1,26 +1,13 @@
-use Rattle.std.proofs.Common.{◌≡◌, ◌+◌, ap₂, ℕ, List, Option}
-use Rattle.ax_execution.specs.Contexts.{Context, Waiting, owners, rows_in}
-use Rattle.ax_execution.specs.Counts.{owner_numbered, rows_numbered, owner_references}
-use Rattle.ax_execution.specs.KeyControls.{KeyControl}
 use Rattle.ax_execution.specs.ControlTurns.{contexts_on}
 use Rattle.ax_execution.specs.Machine.{machine_of, taken}
 use Rattle.ax_execution.specs.MachineControls.{control_of_epoch, control_numbered, control_references}
-use Rattle.ax_execution.specs.ControlsAllowed.{IsFreeOn}
 use Rattle.ax_execution.proofs.Alone.{goes_as_alone}
 use Rattle.ax_execution.proofs.Handlers.{Good, handles}
 use Rattle.ax_execution.proofs.Orderly.{always_orderly, keys_rise}
 use Rattle.ax_execution.proofs.ControlSums.{busy_total}
+use Rattle.ax_execution.proofs.ControlCounts.{free_contexts, free_numbered, free_references}
 use Rattle.ax_execution.proofs.ControlChanges.{free_epoch, keys_hold}
 use Rattle.ax_execution.proofs.controls.busy_keys_are_enough.Goals as goal
-
-free_contexts : (c : KeyControl) → IsFreeOn c → contexts_on c ≡ 0
-free_contexts c h = ap₂ (λ (o : Option Context) (is : List Waiting). owners o + rows_in is) h.owner h.waiting
-
-free_numbered : (n : ℕ) (c : KeyControl) → IsFreeOn c → control_numbered n c ≡ 0
-free_numbered n c h = ap₂ (λ (o : Option Context) (is : List Waiting). owner_numbered n o + rows_numbered n is) h.owner h.waiting
-
-free_references : (n : ℕ) (c : KeyControl) → IsFreeOn c → control_references n c ≡ 0
-free_references n c h = ap₂ (λ (o : Option Context) (is : List Waiting). owner_references n o + rows_numbered n is) h.owner h.waiting
 
 pub returns-clause-flight : goal.returns-clause-flight
 returns-clause-flight c ks m a b = busy_total contexts_on free_contexts m ks m.keys a b
