@@ -1,5 +1,5 @@
 -- How sums over the controls of keys change where one key's control does.
-use Rattle.std.proofs.Common.{◌≡◌, ℕ, suc, ◌+◌, ℤ, List, ◌∷◌, true, false, Option, Some, None, sym, ap, ap₂, ◌∙◌, arith}
+use Rattle.std.proofs.Common.{◌≡◌, ℕ, suc, ◌+◌, ℤ, List, ◌∷◌, true, false, Option, Some, None, sym, ap, ◌∙◌, arith}
 use Rattle.std.proofs.lemmas.Bool.{cond-true, cond-false}
 use Rattle.std.specs.Str.{bytes_eq}
 use Rattle.std.specs.List.{list_any}
@@ -10,8 +10,8 @@ use Rattle.ax_text.specs.Exprs.{Facts}
 use Rattle.ax_machine.specs.Entries.{Key}
 use Rattle.ax_machine.proofs.FiringLemmas.{same_key}
 use Rattle.ax_execution.specs.Sums.{total}
-use Rattle.ax_execution.specs.Contexts.{Context, row_context, Waiting, Row, Mark, owners, rows_in}
-use Rattle.ax_execution.specs.Counts.{one_at, owner_of_epoch, waiting_of_epoch, owner_numbered, rows_numbered, owner_references}
+use Rattle.ax_execution.specs.Contexts.{Context, row_context, Waiting, Row, Mark, rows_in}
+use Rattle.ax_execution.specs.Counts.{one_at, owner_of_epoch, waiting_of_epoch, rows_numbered}
 use Rattle.ax_execution.specs.KeyControls.{KeyControl}
 use Rattle.ax_execution.specs.ControlTurns.{contexts_on}
 use Rattle.ax_execution.specs.MachineControls.{MachineControl, control_at, control_goes_on, in_flight_on, control_of_epoch, epoch_count_on, control_numbered, number_count_on, control_references, reference_count_on}
@@ -68,22 +68,9 @@ module _ (f : KeyControl → ℕ) (controls : Key → KeyControl) (ks : List Key
       (λ known. let a : total ks (λ j. f (control_at controls k c j)) + f (controls k) ≡ total ks (λ j. f (controls j)) + f c = one_changes known in omega arith)
       (λ absent. none_changes absent)
 
--- a free key counts nothing
-
-pub free_contexts : (c : KeyControl) → IsFreeOn c → contexts_on c ≡ 0
-free_contexts c h = ap₂ (λ (o : Option Context) (is : List Waiting). owners o + rows_in is) h.owner h.waiting
-
-pub free_numbered : (n : ℕ) (c : KeyControl) → IsFreeOn c → control_numbered n c ≡ 0
-free_numbered n c h = ap₂ (λ (o : Option Context) (is : List Waiting). owner_numbered n o + rows_numbered n is) h.owner h.waiting
-
-pub free_referred : (n : ℕ) (c : KeyControl) → IsFreeOn c → control_references n c ≡ 0
-free_referred n c h = ap₂ (λ (o : Option Context) (is : List Waiting). owner_references n o + rows_numbered n is) h.owner h.waiting
-
+-- a free key owes nothing
 pub free_owed : (c : KeyControl) → IsFreeOn c → owed_to c.owner ≡ 0
 free_owed c h = ap owed_to h.owner
-
-pub free_of_epoch : (u : ℕ) (c : KeyControl) → IsFreeOn c → control_of_epoch u c ≡ 0
-free_of_epoch u c h = ap₂ (λ (o : Option Context) (is : List Waiting). owner_of_epoch u o + waiting_of_epoch u is) h.owner h.waiting
 
 -- the sums of the machine's control, where a key among its keys goes on
 module _ (m : MachineControl) (rise : IsStrictlySortedBy key_cmp m.keys) (k : Key) (known : list_any (bytes_eq k) m.keys ≡ true) (must : Option Key) (c : KeyControl) where

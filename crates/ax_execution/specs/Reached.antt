@@ -7,13 +7,11 @@ use Rattle.std.specs.Ordering.{int_cmp}
 use Rattle.ax_keys.specs.Keys.{key_cmp}
 use Rattle.ax_text.specs.declared.vocabulary.Handler.TheVariants as handler
 use Rattle.ax_text.specs.Prints.{has}
-use Rattle.ax_text.specs.Footprints.{ControlFits}
-use Rattle.ax_text.specs.Sound.{everything, Split, IsWakeful}
 use Rattle.ax_text.specs.Programs.{Program}
 use Rattle.ax_text.specs.Controls.{is_done, slots}
 use Rattle.ax_machine.specs.Entries.{Key}
 use Rattle.ax_execution.specs.Contexts.{Running, Begun, Context, Waiting, Row, Mark, rows_in, may_fire}
-use Rattle.ax_execution.specs.Counts.{references, AreDistinct}
+use Rattle.ax_execution.specs.Counts.{references}
 use Rattle.ax_execution.specs.Sums.{total}
 use Rattle.ax_execution.specs.Origins.{Origin, IsOrigin}
 use Rattle.ax_execution.specs.KeyControls.{KeyControl}
@@ -86,10 +84,6 @@ pub record IsOrderly (r : Rules) (m : MachineControl) : Type 0 where
   pub rows : (k : Key) → (m.must ≡ Some k → ⊥) → (m.controls k).owner ≡ None → rows_in (m.controls k).waiting ≡ 0
   pub due : (k : Key) (e : ℕ) (w : ℤ) (more : ℕ) (rest : List Waiting) → (m.controls k).owner ≡ None → (m.controls k).waiting ≡ Mark e w more ∷ rest → may_fire w more (m.controls k).times ≡ true
   pub room : (k : Key) → m.must ≡ Some k → (is_idle_on (m.controls k) ≡ true) × (in_flight_on m < r.limit)
-  pub fits : (k : Key) (c : Context) (running : Running) → (m.controls k).owner ≡ Some c → c.stage ≡ Begun running → ControlFits running.control everything
-  pub split : (k : Key) (c : Context) (running : Running) → (m.controls k).owner ≡ Some c → c.stage ≡ Begun running → Split running.control
-  pub wakeful : (k : Key) (c : Context) (running : Running) → (m.controls k).owner ≡ Some c → c.stage ≡ Begun running → IsWakeful running.control
-  pub distinct : (k : Key) (c : Context) (running : Running) → (m.controls k).owner ≡ Some c → c.stage ≡ Begun running → AreDistinct (slots running.control)
   pub awake : (k : Key) (c : Context) (running : Running) → (m.controls k).owner ≡ Some c → c.stage ≡ Begun running → is_done running.control ≡ false
   pub answers : (k : Key) (c : Context) (running : Running) (slot : ℕ) → (m.controls k).owner ≡ Some c → c.stage ≡ Begun running → has slot (slots running.control) ≡ false → running.answers slot ≡ None
   pub owners : (k : Key) → OwnerOpen m (m.controls k).owner
