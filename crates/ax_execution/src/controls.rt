@@ -45,7 +45,7 @@ pub fn allowed_sees_the_control()
     ensures is_run { (r : Rules) (g : ℕ) (p : Program) (es : List Happening) (m : Machine) → IsRunOn r p (with_answers g p es m) (control_of_machine m) → IsRun r g p es m }
 {}
 
-/// So are the contexts in flight, the rows and marks of an epoch, and the contexts and references of a number.
+/// The contexts in flight, the rows and marks of an epoch, and the contexts and references of a number are seen of the control.
 pub fn counts_see_the_control()
     ensures flight { (m : Machine) → in_flight_on (control_of_machine m) ≡ in_flight m }
     ensures epochs { (u : ℕ) (m : Machine) → epoch_count_on u (control_of_machine m) ≡ epoch_count u m }
@@ -53,7 +53,7 @@ pub fn counts_see_the_control()
     ensures references { (n : ℕ) (m : Machine) → reference_count_on n (control_of_machine m) ≡ reference_count n m }
 {}
 
-/// The same sums come of any rising keys that hold each key with an owner or with something that waits. The keys of rows do.
+/// These counts are the same over any rising keys that hold each key with an owner or with something that waits. The keys of rows do.
 pub fn busy_keys_are_enough()
     ensures flight { (ks : List Key) (m : MachineControl) → HoldBusy ks m → HoldBusy m.keys m → total ks (λ k. contexts_on (m.controls k)) ≡ in_flight_on m }
     ensures epochs { (u : ℕ) (ks : List Key) (m : MachineControl) → HoldBusy ks m → HoldBusy m.keys m → total ks (λ k. control_of_epoch u (m.controls k)) ≡ epoch_count_on u m }
@@ -90,8 +90,9 @@ pub fn handlers_stay_sound()
         → AreSound (control_of_machine (machine_of g p from es)) }
 {}
 
-/// In such a control Admit and Fire make one context, one is given up exactly where the outcome says so, and references rise by what is
-/// asked and fall by one as a callback ends. Nothing else changes how many contexts are in flight or have a number, nor their references.
+/// In a control that is in order and whose handlers are sound, Admit and Fire make one context, one is given up exactly where the outcome
+/// says so, and references rise by what is asked and fall by one as a callback ends. Nothing else changes how many contexts are in flight
+/// or have a number, nor their references.
 pub fn contexts_come_and_go()
     ensures flight { (r : Rules) (p : Program) (e : Happening) (a : Option Answer) (m : MachineControl) → IsInOrder r m → AreSound m → AllowedOn r e m
         → in_flight_on (happens_on p e a m) + one_if_gone (outcome_on p e m).gone ≡ in_flight_on m + made e }
