@@ -235,6 +235,7 @@ module _ (r : Rules) (m : MachineControl) (h : Holds r m) where
     waiting = λ k. waiting_opens m h.oldest (m.controls k).waiting follows (h.keys k).waits;
     marks = λ k. marks_below h.oldest m.epoch (m.controls k).waiting (h.keys k).waits;
     firings = firing_front;
+    unsent = (let y : h.oldest + length m.unsent ≡ m.epoch = follows in omega arith);
     oldest = λ e x. subst (λ (n : ℕ). Follow n m.unsent m.epoch) (let y : h.oldest + length m.unsent ≡ m.epoch = follows in omega arith) h.follow;
   }
 

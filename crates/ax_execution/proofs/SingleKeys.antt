@@ -10,12 +10,13 @@ use Rattle.ax_text.specs.Exprs.{Facts}
 use Rattle.ax_machine.specs.Entries.{Key}
 use Rattle.ax_machine.proofs.FiringLemmas.{same_key}
 use Rattle.ax_execution.specs.Sums.{total}
-use Rattle.ax_execution.specs.Contexts.{Context, row_context, Waiting, Row, Mark, rows_in}
+use Rattle.ax_execution.specs.Contexts.{Context, row_context, Waiting, Row, Mark, rows_in, may_fire}
 use Rattle.ax_execution.specs.Counts.{one_at, owner_of_epoch, waiting_of_epoch, rows_numbered}
 use Rattle.ax_execution.specs.KeyControls.{KeyControl}
-use Rattle.ax_execution.specs.ControlTurns.{contexts_on}
+use Rattle.ax_execution.specs.ControlTurns.{contexts_on, handed_on}
 use Rattle.ax_execution.specs.MachineControls.{MachineControl, control_at, control_goes_on, in_flight_on, control_of_epoch, epoch_count_on, control_numbered, number_count_on, control_references, reference_count_on}
 use Rattle.ax_execution.specs.ControlsAllowed.{IsFreeOn}
+use Rattle.ax_execution.specs.ControlChanges.{marks_off}
 use Rattle.ax_execution.specs.Reached.{owed_to, owed_in}
 use Rattle.ax_execution.proofs.Upto.{by_cases}
 use Rattle.ax_execution.proofs.KeySums.{once_from, inserted_total, inserted_again}
@@ -88,6 +89,20 @@ module _ (m : MachineControl) (rise : IsStrictlySortedBy key_cmp m.keys) (k : Ke
 
   pub epoch_goes_on : (u : ℕ) → epoch_count_on u (control_goes_on k must c m) + control_of_epoch u (m.controls k) ≡ epoch_count_on u m + control_of_epoch u c
   epoch_goes_on u = one_changes (control_of_epoch u) m.controls m.keys rise k c known
+
+-- where a key that nobody owns is handed over, a mark in front that fires stays, and one that doesn't is taken off
+
+pub hands_stop : (e : ℕ) (w : ℤ) (more : ℕ) (is : List Waiting) (times : List ℤ) → may_fire w more times ≡ true → handed_on (Mark e w more ∷ is) times ≡ keyed None (Mark e w more ∷ is) times
+hands_stop e w more is times h = cond-true (may_fire w more times) (keyed None (Mark e w more ∷ is) times) (handed_on is times) h
+
+pub hands_on : (e : ℕ) (w : ℤ) (more : ℕ) (is : List Waiting) (times : List ℤ) → may_fire w more times ≡ false → handed_on (Mark e w more ∷ is) times ≡ handed_on is times
+hands_on e w more is times h = cond-false (may_fire w more times) (keyed None (Mark e w more ∷ is) times) (handed_on is times) h
+
+pub none_off : (u e : ℕ) (w : ℤ) (more : ℕ) (is : List Waiting) (times : List ℤ) → may_fire w more times ≡ true → marks_off u (Mark e w more ∷ is) times ≡ 0
+none_off u e w more is times h = cond-true (may_fire w more times) 0 (one_at u e + marks_off u is times) h
+
+pub one_off : (u e : ℕ) (w : ℤ) (more : ℕ) (is : List Waiting) (times : List ℤ) → may_fire w more times ≡ false → marks_off u (Mark e w more ∷ is) times ≡ one_at u e + marks_off u is times
+one_off u e w more is times h = cond-false (may_fire w more times) 0 (one_at u e + marks_off u is times) h
 
 -- one step of handing a key over that nobody owns: its first mark is taken off
 module _ (m : MachineControl) (rise : IsStrictlySortedBy key_cmp m.keys) (k : Key) (known : list_any (bytes_eq k) m.keys ≡ true) (must : Option Key)

@@ -90,4 +90,5 @@ pub record IsOrderly (r : Rules) (m : MachineControl) : Type 0 where
   pub waiting : (k : Key) → WaitingOpen m (m.controls k).waiting
   pub marks : (k : Key) → MarksBelow m.epoch (m.controls k).waiting
   pub firings : (k : Key) (c : Context) → (m.controls k).owner ≡ Some c → c.job.handler ≡ handler.Timer → MarkInFront c.epoch (m.controls k).waiting
+  pub unsent : length m.unsent ≤ m.epoch
   pub oldest : (e : ℕ) → e + length m.unsent ≡ m.epoch → Follow e m.unsent m.epoch
