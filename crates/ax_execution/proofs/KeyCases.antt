@@ -1,29 +1,23 @@
 -- What an allowed event of one key leaves of its control, case by case.
 use Rattle.std.proofs.Common.{◌≡◌, ℕ, zero, suc, ℤ, int_le, List, [], ◌∷◌, ◌++◌, Bool, true, false, cond, Option, Some, None, refl}
-use Rattle.ax_text.specs.declared.vocabulary.Request.{Request}
 use Rattle.ax_text.specs.declared.vocabulary.Answer.{Answer}
 use Rattle.ax_text.specs.Functions.{upd}
 use Rattle.ax_text.specs.Exprs.{Facts}
 use Rattle.ax_text.specs.Run.{times_after}
 use Rattle.ax_text.specs.Programs.{Program}
-use Rattle.ax_text.specs.Controls.{request_at}
 use Rattle.ax_text.specs.Jobs.{firing_job}
 use Rattle.ax_text.specs.Silent.{unanswered}
 use Rattle.ax_execution.specs.Contexts.{Running, Stage, Unbegun, Begun, Context, new_context, row_context, Waiting, Row, Mark, is_due, is_idle_with}
-use Rattle.ax_execution.specs.Rest.{silent}
-use Rattle.ax_execution.specs.Turns.{staged, begins, gives, Effects, effects_of, stage_starts, owner_starts, answer_gives, stage_gives, owner_gives}
-use Rattle.ax_execution.specs.KeyControls.{KeyControl, owner_keeps, stage_keeps, keeps_answer}
+use Rattle.ax_execution.specs.Turns.{begins, gives, Effects, effects_of, stage_starts, owner_starts, answer_gives, stage_gives, owner_gives}
+use Rattle.ax_execution.specs.KeyControls.{KeyControl}
 use Rattle.ax_execution.specs.ControlTurns.{is_idle_on, called_back_on, start_stage_on, start_owner_on, start_on, give_answer_on, deliver_stage_on, deliver_owner_on, deliver_on, fire_due_on, fire_front_on, fire_on, admit_at_on, admit_on, mark_at_on, mark_on}
-use Rattle.ax_execution.specs.Allowed.{StageUnbegun, StageAsks, StageHas, OfOwner}
-use Rattle.ax_execution.proofs.Stuck.{FrontFires, none_some}
+use Rattle.ax_execution.specs.Allowed.{StageUnbegun, StageHas, OfOwner}
+use Rattle.ax_execution.specs.ControlOrder.{FrontMayFire}
+use Rattle.ax_execution.proofs.Stuck.{none_some}
 use Rattle.ax_execution.proofs.SingleKeys.{keyed}
 
 true_false : false ≡ true → ⊥
 true_false e = cc e
-
--- a handler to which this was answered, with nothing said so far
-abbrev pub kept : Running → ℕ → Answer → Running
-kept r slot a = record { control = r.control; names = r.names; answers = upd r.answers slot (Some a); lines = []; served = 0 }
 
 -- the owner begins
 module _ (P : KeyControl → Effects → Type 0) (p : Program) (q : KeyControl)
@@ -60,22 +54,6 @@ module _ (P : KeyControl → Effects → Type 0) (slot : ℕ) (q : KeyControl)
   pub deliver_case : OfOwner (StageHas slot) q.owner → P (deliver_on slot q) (owner_gives slot q.owner)
   deliver_case h = deliver_of q.owner refl h
 
--- a request is served
-module _ (P : KeyControl → Type 0) (slot : ℕ) (q : KeyControl)
-    (served : (c : Context) (r : Running) (x : Request) (a : Answer) → q.owner ≡ Some c → c.stage ≡ Begun r → request_at r.control slot ≡ Some x → r.answers slot ≡ None
-    → P (keyed (Some (staged c (Begun (kept r slot a)))) q.waiting q.times)) where
-  serve_at : (c : Context) (st : Stage) (a : Answer) → q.owner ≡ Some c → c.stage ≡ st → StageAsks slot st → P (keyed (silent (Some (staged c (stage_keeps slot (Some a) st)))) q.waiting q.times)
-  serve_at c Unbegun a e x h = absurd h
-  serve_at c (Begun r) a e x h = served c r h.0.0 a e x h.0.1 h.1
-
-  serve_of : (o : Option Context) (a : Answer) → q.owner ≡ o → OfOwner (StageAsks slot) o → P (keyed (silent (owner_keeps slot (Some a) o)) q.waiting q.times)
-  serve_of None a e h = absurd h
-  serve_of (Some c) a e h = serve_at c c.stage a e refl h
-
-  pub serve_case : (o : Option Answer) → (a : Answer) × (o ≡ Some a) → OfOwner (StageAsks slot) q.owner → P (keeps_answer slot o q)
-  serve_case None x h = absurd (none_some x.1)
-  serve_case (Some a) x h = serve_of q.owner a refl h
-
 -- the mark in front of an idle key fires
 module _ (P : KeyControl → Type 0) (n : ℕ) (q : KeyControl)
     (fired : (e : ℕ) (w : ℤ) (more : ℕ) (is : List Waiting) (t : ℤ) (ts : List ℤ) → q.owner ≡ None → q.waiting ≡ Mark e w (suc more) ∷ is → q.times ≡ t ∷ ts
@@ -88,15 +66,14 @@ module _ (P : KeyControl → Type 0) (n : ℕ) (q : KeyControl)
       of true y = fired e w more is t ts a b d
       of false y = absurd (true_false y)
 
-  fire_at : (o : Option Context) (is : List Waiting) → q.owner ≡ o → q.waiting ≡ is → is_idle_with o is ≡ true → FrontFires is q.times → P (fire_front_on n o is q)
-  unfolding FrontFires
+  fire_at : (o : Option Context) (is : List Waiting) → q.owner ≡ o → q.waiting ≡ is → is_idle_with o is ≡ true → FrontMayFire is q.times → P (fire_front_on n o is q)
   fire_at None [] a b i f = absurd (true_false i)
   fire_at None (Row j e facts ∷ is) a b i f = absurd f
   fire_at None (Mark e w zero ∷ is) a b i f = absurd (true_false f)
   fire_at None (Mark e w (suc more) ∷ is) a b i f = due_at e w more is q.times a b refl f
   fire_at (Some c) is a b i f = absurd (true_false i)
 
-  pub fire_case : is_idle_on q ≡ true → FrontFires q.waiting q.times → P (fire_on n q)
+  pub fire_case : is_idle_on q ≡ true → FrontMayFire q.waiting q.times → P (fire_on n q)
   fire_case i h = fire_at q.owner q.waiting refl refl i h
 
 -- a row comes, and a mark comes

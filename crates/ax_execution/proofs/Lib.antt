@@ -1,5 +1,7 @@
+pub mod ReachedOrderly
+pub mod KeysTimely
 pub mod KeyCases
-pub mod ControlWeights
+pub mod ControlOwed
 pub mod SingleKeys
 pub mod ReachedLemmas
 pub mod Cases

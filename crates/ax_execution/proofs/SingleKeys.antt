@@ -1,5 +1,5 @@
 -- How sums over the controls of keys change where one key's control does.
-use Rattle.std.proofs.Common.{◌≡◌, ℕ, suc, ◌+◌, nat_eq, ℤ, int_le, List, [], ◌∷◌, true, false, cond, Option, Some, None, refl, sym, ap, ap₂, ◌∙◌, arith}
+use Rattle.std.proofs.Common.{◌≡◌, ℕ, suc, ◌+◌, ℤ, List, ◌∷◌, true, false, Option, Some, None, sym, ap, ◌∙◌, arith}
 use Rattle.std.proofs.lemmas.Bool.{cond-true, cond-false}
 use Rattle.std.specs.Str.{bytes_eq}
 use Rattle.std.specs.List.{list_any}
@@ -10,12 +10,13 @@ use Rattle.ax_text.specs.Exprs.{Facts}
 use Rattle.ax_machine.specs.Entries.{Key}
 use Rattle.ax_machine.proofs.FiringLemmas.{same_key}
 use Rattle.ax_execution.specs.Sums.{total}
-use Rattle.ax_execution.specs.Contexts.{Context, row_context, Waiting, Row, Mark, owners, rows_in}
-use Rattle.ax_execution.specs.Counts.{one_at, owner_of_epoch, waiting_of_epoch, owner_numbered, rows_numbered, owner_references}
+use Rattle.ax_execution.specs.Contexts.{Context, row_context, Waiting, Row, Mark, rows_in, may_fire}
+use Rattle.ax_execution.specs.Counts.{one_at, owner_of_epoch, waiting_of_epoch, rows_numbered}
 use Rattle.ax_execution.specs.KeyControls.{KeyControl}
-use Rattle.ax_execution.specs.ControlTurns.{contexts_on}
+use Rattle.ax_execution.specs.ControlTurns.{contexts_on, handed_on}
 use Rattle.ax_execution.specs.MachineControls.{MachineControl, control_at, control_goes_on, in_flight_on, control_of_epoch, epoch_count_on, control_numbered, number_count_on, control_references, reference_count_on}
 use Rattle.ax_execution.specs.ControlsAllowed.{IsFreeOn}
+use Rattle.ax_execution.specs.ControlChanges.{marks_off}
 use Rattle.ax_execution.specs.Reached.{owed_to, owed_in}
 use Rattle.ax_execution.proofs.Upto.{by_cases}
 use Rattle.ax_execution.proofs.KeySums.{once_from, inserted_total, inserted_again}
@@ -68,22 +69,9 @@ module _ (f : KeyControl → ℕ) (controls : Key → KeyControl) (ks : List Key
       (λ known. let a : total ks (λ j. f (control_at controls k c j)) + f (controls k) ≡ total ks (λ j. f (controls j)) + f c = one_changes known in omega arith)
       (λ absent. none_changes absent)
 
--- a free key counts nothing
-
-pub free_contexts : (c : KeyControl) → IsFreeOn c → contexts_on c ≡ 0
-free_contexts c h = ap₂ (λ (o : Option Context) (is : List Waiting). owners o + rows_in is) h.owner h.waiting
-
-pub free_numbered : (n : ℕ) (c : KeyControl) → IsFreeOn c → control_numbered n c ≡ 0
-free_numbered n c h = ap₂ (λ (o : Option Context) (is : List Waiting). owner_numbered n o + rows_numbered n is) h.owner h.waiting
-
-pub free_referred : (n : ℕ) (c : KeyControl) → IsFreeOn c → control_references n c ≡ 0
-free_referred n c h = ap₂ (λ (o : Option Context) (is : List Waiting). owner_references n o + rows_numbered n is) h.owner h.waiting
-
+-- a free key owes nothing
 pub free_owed : (c : KeyControl) → IsFreeOn c → owed_to c.owner ≡ 0
 free_owed c h = ap owed_to h.owner
-
-pub free_of_epoch : (u : ℕ) (c : KeyControl) → IsFreeOn c → control_of_epoch u c ≡ 0
-free_of_epoch u c h = ap₂ (λ (o : Option Context) (is : List Waiting). owner_of_epoch u o + waiting_of_epoch u is) h.owner h.waiting
 
 -- the sums of the machine's control, where a key among its keys goes on
 module _ (m : MachineControl) (rise : IsStrictlySortedBy key_cmp m.keys) (k : Key) (known : list_any (bytes_eq k) m.keys ≡ true) (must : Option Key) (c : KeyControl) where
@@ -101,6 +89,20 @@ module _ (m : MachineControl) (rise : IsStrictlySortedBy key_cmp m.keys) (k : Ke
 
   pub epoch_goes_on : (u : ℕ) → epoch_count_on u (control_goes_on k must c m) + control_of_epoch u (m.controls k) ≡ epoch_count_on u m + control_of_epoch u c
   epoch_goes_on u = one_changes (control_of_epoch u) m.controls m.keys rise k c known
+
+-- where a key that nobody owns is handed over, a mark in front that fires stays, and one that doesn't is taken off
+
+pub hands_stop : (e : ℕ) (w : ℤ) (more : ℕ) (is : List Waiting) (times : List ℤ) → may_fire w more times ≡ true → handed_on (Mark e w more ∷ is) times ≡ keyed None (Mark e w more ∷ is) times
+hands_stop e w more is times h = cond-true (may_fire w more times) (keyed None (Mark e w more ∷ is) times) (handed_on is times) h
+
+pub hands_on : (e : ℕ) (w : ℤ) (more : ℕ) (is : List Waiting) (times : List ℤ) → may_fire w more times ≡ false → handed_on (Mark e w more ∷ is) times ≡ handed_on is times
+hands_on e w more is times h = cond-false (may_fire w more times) (keyed None (Mark e w more ∷ is) times) (handed_on is times) h
+
+pub none_off : (u e : ℕ) (w : ℤ) (more : ℕ) (is : List Waiting) (times : List ℤ) → may_fire w more times ≡ true → marks_off u (Mark e w more ∷ is) times ≡ 0
+none_off u e w more is times h = cond-true (may_fire w more times) 0 (one_at u e + marks_off u is times) h
+
+pub one_off : (u e : ℕ) (w : ℤ) (more : ℕ) (is : List Waiting) (times : List ℤ) → may_fire w more times ≡ false → marks_off u (Mark e w more ∷ is) times ≡ one_at u e + marks_off u is times
+one_off u e w more is times h = cond-false (may_fire w more times) 0 (one_at u e + marks_off u is times) h
 
 -- one step of handing a key over that nobody owns: its first mark is taken off
 module _ (m : MachineControl) (rise : IsStrictlySortedBy key_cmp m.keys) (k : Key) (known : list_any (bytes_eq k) m.keys ≡ true) (must : Option Key)

@@ -19,4 +19,4 @@ pub mod ControlChanges
 pub mod ControlOrder
 pub mod Rows
 pub mod Reached
-pub mod ContextCounts
+pub mod OwedChanges

@@ -1,21 +1,11 @@
--- What an event changes of how many contexts there are, as of the control of the machine.
-use Rattle.std.specs.Prelude.{ℕ, ◌+◌, List, [], ◌∷◌, length, Bool, true, false, Option, Some, None}
+-- What an event changes of the references of owners.
+use Rattle.std.specs.Prelude.{ℕ, ◌+◌, List, [], length, Bool, true, false, Option, None}
 use Rattle.ax_text.specs.Programs.{Program}
 use Rattle.ax_execution.specs.Contexts.{Context, Waiting, owners}
-use Rattle.ax_execution.specs.Counts.{owns, counted}
+use Rattle.ax_execution.specs.Counts.{counted}
 use Rattle.ax_execution.specs.KeyControls.{KeyControl}
 use Rattle.ax_execution.specs.Machine.{Happening, Admit, Close, Fire, Start, Serve, Deliver, Send}
 use Rattle.ax_execution.specs.MachineControls.{MachineControl, outcome_on}
-
--- whether a callback of a context with this number runs
-abbrev pub calls_on : ℕ → Happening → MachineControl → Bool
-calls_on n (Admit i k time values) m = false
-calls_on n (Close c) m = false
-calls_on n (Fire i k) m = false
-calls_on n (Start k) m = owns n (m.controls k).owner
-calls_on n (Serve k slot) m = false
-calls_on n (Deliver k slot) m = owns n (m.controls k).owner
-calls_on n Send m = false
 
 -- no owner, and nothing that waits
 abbrev pub is_free_with : Option Context → List Waiting → Bool
