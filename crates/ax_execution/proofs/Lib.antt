@@ -1,3 +1,4 @@
+pub mod ReachedCounts
 pub mod ReachedOrderly
 pub mod KeysTimely
 pub mod KeyCases

@@ -83,16 +83,16 @@ rest_none m h = (
 
 -- finished epochs
 
-one_here : (e : ℕ) → one_at e e ≡ 1
+pub one_here : (e : ℕ) → one_at e e ≡ 1
 one_here e = ap (λ (b : Bool). cond b 1 0) (eq-eqb e e refl)
 
-none_later : (e f u : ℕ) → u ≤ e → e < f → one_at u f ≡ 0
+pub none_later : (e f u : ℕ) → u ≤ e → e < f → one_at u f ≡ 0
 none_later e f u a h = ap (λ (b : Bool). cond b 1 0) (by_cases (nat_eq f u) (λ x. let same : f ≡ u = eqb-true f u x in absurd (omega arith)) (λ x. x))
 
-later : (e f : ℕ) → (f ≤ e → ⊥) → e < f
+pub later : (e f : ℕ) → (f ≤ e → ⊥) → e < f
 later e f h = by_cases (nat_lt e f) (λ x. ltb-true e f x) (λ x. absurd (h (ltb-false e f x)))
 
-owner_none : (e u : ℕ) (c : Option Context) → u ≤ e → OwnedLater e c → owner_of_epoch u c ≡ 0
+pub owner_none : (e u : ℕ) (c : Option Context) → u ≤ e → OwnedLater e c → owner_of_epoch u c ≡ 0
 owner_none e u None a h = refl
 owner_none e u (Some c) a h = of c.job.handler
   where
@@ -100,7 +100,7 @@ owner_none e u (Some c) a h = of c.job.handler
     of handler.Row = none_later e c.epoch u a h
     of handler.Timer = refl
 
-waiting_none : (e u : ℕ) (is : List Waiting) → u ≤ e → WaitLater e is → waiting_of_epoch u is ≡ 0
+pub waiting_none : (e u : ℕ) (is : List Waiting) → u ≤ e → WaitLater e is → waiting_of_epoch u is ≡ 0
 waiting_none e u [] a h = refl
 waiting_none e u (Row n f facts ∷ is) a h = ap₂ (λ (x y : ℕ). x + y) (none_later e f u a h.0) (waiting_none e u is a h.1)
 waiting_none e u (Mark f w more ∷ is) a h = ap₂ (λ (x y : ℕ). x + y) (none_later e f u a h.0) (waiting_none e u is a h.1)
@@ -123,7 +123,7 @@ unfolding OwnerCovered
 owner_later e None is covers h waits = tt
 owner_later e (Some c) is covers h waits = row_later e c.job.handler c.epoch is covers h waits
 
-waiting_later : (e : ℕ) (is : List Waiting) → ((u : ℕ) → u ≤ e → waiting_of_epoch u is ≡ 0) → WaitLater e is
+pub waiting_later : (e : ℕ) (is : List Waiting) → ((u : ℕ) → u ≤ e → waiting_of_epoch u is ≡ 0) → WaitLater e is
 waiting_later e [] h = tt
 waiting_later e (Row n f facts ∷ is) h = (
   later e f (λ a. let x : one_at f f ≡ 1 = one_here f in let y : one_at f f + waiting_of_epoch f is ≡ 0 = h f a in absurd (omega arith)),

@@ -66,7 +66,7 @@ follow_last : (e : ℕ) (cs : List Closed) (now : ℕ) (c : Closing) → Follow 
 follow_last e [] now c h = (sym h, ap (λ (n : ℕ). suc n) h)
 follow_last e (d ∷ cs) now c h = (h.0, follow_last (suc e) cs now c h.1)
 
-follow_length : (e : ℕ) (cs : List Closed) (now : ℕ) → Follow e cs now → e + length cs ≡ now
+pub follow_length : (e : ℕ) (cs : List Closed) (now : ℕ) → Follow e cs now → e + length cs ≡ now
 follow_length e [] now h = let a : e ≡ now = h in omega arith
 follow_length e (c ∷ cs) now h = let a : suc e + length cs ≡ now = follow_length (suc e) cs now h.1 in omega arith
 
@@ -80,8 +80,8 @@ pub record Holds (r : Rules) (m : MachineControl) : Type 0 where
   pub order : IsInOrder r m
   pub sound : AreSound m
   -- the oldest epoch whose marker isn't sent
-  oldest : ℕ
-  follow : Follow oldest m.unsent m.epoch
+  pub oldest : ℕ
+  pub follow : Follow oldest m.unsent m.epoch
   keys : (k : Key) → KeyTimely oldest m.epoch (m.controls k)
   numbers : (n : ℕ) → number_count_on n m ≤ 1
 

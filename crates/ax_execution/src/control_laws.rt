@@ -1,13 +1,13 @@
 //! Laws of the controls that are reached: by events that are allowed each at its place, from an origin, whatever the cells answered.
-ghost use Rattle.std.specs.Prelude.{◌≡◌, ℕ, ◌+◌, List, Option};
+ghost use Rattle.std.specs.Prelude.{◌≡◌, ℕ, ◌+◌, ◌≤◌, ◌<◌, List, ◌∷◌, length, Option};
 ghost use Rattle.ax_text.specs.declared.vocabulary.Answer.{Answer};
 ghost use Rattle.ax_text.specs.Programs.{Program};
 ghost use Rattle.ax_execution.specs.Accepted.{AreAccepted};
 ghost use Rattle.ax_execution.specs.Origins.{Origin, IsOrigin};
-ghost use Rattle.ax_execution.specs.Machine.{Happening, Rules, machine_from, machine_of};
+ghost use Rattle.ax_execution.specs.Machine.{Closed, Happening, Rules, machine_from, machine_of};
 ghost use Rattle.ax_execution.specs.Allowed.{IsRun};
-ghost use Rattle.ax_execution.specs.MachineControls.{MachineControl, control_of_machine, at_origin, happens_on};
-ghost use Rattle.ax_execution.specs.ControlsAllowed.{AllowedOn, IsAnswered};
+ghost use Rattle.ax_execution.specs.MachineControls.{MachineControl, control_of_machine, at_origin, happens_on, epoch_count_on};
+ghost use Rattle.ax_execution.specs.ControlsAllowed.{IsFinishedOn, AllowedOn, IsAnswered};
 ghost use Rattle.ax_execution.specs.ControlOrder.{IsInOrder, AreSound};
 ghost use Rattle.ax_execution.specs.Reached.{IsReached, owed_in, IsOrderly};
 ghost use Rattle.ax_execution.specs.OwedChanges.{owed_more, owed_less};
@@ -37,4 +37,13 @@ pub fn reached_controls_are_orderly()
 pub fn owners_gain_and_lose()
     ensures { (r : Rules) (p : Program) (e : Happening) (a : Option Answer) (m : MachineControl) → IsInOrder r m → AreSound m → AllowedOn r e m
         → owed_in (happens_on p e a m) + owed_less e ≡ owed_in m + owed_more p e m (happens_on p e a m) }
+{}
+
+/// An epoch is finished exactly where no context of a row of it or of an earlier one is in flight, and no mark of them is left. So is each
+/// whose marker was sent, and the oldest other one where nothing of its own is left.
+pub fn finished_epochs_count_nothing()
+    ensures finished { (e : ℕ) (m : MachineControl) → IsFinishedOn e m → (u : ℕ) → u ≤ e → epoch_count_on u m ≡ 0 }
+    ensures counts { (r : Rules) (p : Program) (m : MachineControl) (e : ℕ) → AreAccepted p → IsReached r p m → ((u : ℕ) → u ≤ e → epoch_count_on u m ≡ 0) → IsFinishedOn e m }
+    ensures sent { (r : Rules) (p : Program) (m : MachineControl) (e : ℕ) → AreAccepted p → IsReached r p m → e + length m.unsent < m.epoch → IsFinishedOn e m }
+    ensures first { (r : Rules) (p : Program) (m : MachineControl) (c : Closed) (cs : List Closed) → AreAccepted p → IsReached r p m → m.unsent ≡ c ∷ cs → epoch_count_on c.epoch m ≡ 0 → IsFinishedOn c.epoch m }
 {}
