@@ -78,7 +78,7 @@ order_from r m o rises = record {
 unfoldable pub bare_machine : MachineControl → Machine
 bare_machine m = record { wm = m.wm; epoch = m.epoch; keys = m.keys; parts = λ k. bare (m.controls k); must = m.must; unsent = m.unsent; written = [] }
 
-goes_to : (o : Option Context) → OwnerGoesOn o → IsAwake o
+pub goes_to : (o : Option Context) → OwnerGoesOn o → IsAwake o
 unfolding IsAwake StageWakes
 goes_to None w = tt
 goes_to (Some c) w = of c.stage w

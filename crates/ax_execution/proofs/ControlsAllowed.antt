@@ -236,7 +236,7 @@ first_same (c ∷ cs) m = every_same (part_later c.epoch) (control_later c.epoch
 room_same : (r : Rules) (m : Machine) → nat_lt (in_flight_on (control_of_machine m)) r.limit ≡ nat_lt (in_flight m) r.limit
 room_same r m = ap (λ (n : ℕ). nat_lt n r.limit) (flight_on m)
 
-and_same : {a b c d : Bool} → a ≡ b → c ≡ d → (a && c) ≡ (b && d)
+pub and_same : {a b c d : Bool} → a ≡ b → c ≡ d → (a && c) ≡ (b && d)
 and_same p q = ap₂ (λ (x y : Bool). x && y) p q
 
 pub allowed_same : (r : Rules) (e : Happening) (m : Machine) → allowed_on r e (control_of_machine m) ≡ allowed r e m

@@ -1,4 +1,7 @@
 pub mod ReachedCounts
+pub mod ControlTests
+pub mod ControlReferences
+pub mod ControlWaits
 pub mod ReachedOrderly
 pub mod KeysTimely
 pub mod KeyCases

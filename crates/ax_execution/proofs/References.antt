@@ -55,11 +55,11 @@ distinct_slots (Arms one two k) h = distinct_both (slots one) (slots two) (disti
 
 -- a context has a number where it has references
 
-total_at_most : (f g : Key → ℕ) (ks : List Key) → ((k : Key) → f k ≤ g k) → total ks f ≤ total ks g
+pub total_at_most : (f g : Key → ℕ) (ks : List Key) → ((k : Key) → f k ≤ g k) → total ks f ≤ total ks g
 total_at_most f g [] h = omega arith
 total_at_most f g (k ∷ ks) h = omega (arith, h k, total_at_most f g ks h)
 
-total_none : (f g : Key → ℕ) (ks : List Key) → ((k : Key) → f k ≡ 0 → g k ≡ 0) → total ks f ≡ 0 → total ks g ≡ 0
+pub total_none : (f g : Key → ℕ) (ks : List Key) → ((k : Key) → f k ≡ 0 → g k ≡ 0) → total ks f ≡ 0 → total ks g ≡ 0
 total_none f g [] h z = refl
 total_none f g (k ∷ ks) h z =
     let a : f k ≡ 0 = omega (arith, z) in
@@ -72,7 +72,7 @@ one_if : (b : Bool) (x : ℕ) → cond {A = ℕ} b 1 0 ≡ 0 → cond b x 0 ≡ 
 one_if true x h = absurd (omega (arith, h))
 one_if false x h = refl
 
-unreferred : (n : ℕ) (o : Option Context) (rows : ℕ) → owner_numbered n o + rows ≡ 0 → owner_references n o + rows ≡ 0
+pub unreferred : (n : ℕ) (o : Option Context) (rows : ℕ) → owner_numbered n o + rows ≡ 0 → owner_references n o + rows ≡ 0
 unreferred n None rows h = h
 unreferred n (Some c) rows h =
     let a : one_at n c.number ≡ 0 = omega (arith, h) in
@@ -82,15 +82,15 @@ unreferred n (Some c) rows h =
 pub none_referred : (n : ℕ) (m : Machine) → number_count n m ≡ 0 → reference_count n m ≡ 0
 none_referred n m h = total_none (λ k. part_numbered n (m.parts k)) (λ k. part_references n (m.parts k)) m.keys (λ k. unreferred n (m.parts k).owner (rows_numbered n (m.parts k).waiting)) h
 
-some_if : (b : Bool) (x : ℕ) → 0 < x → cond {A = ℕ} b 1 0 ≤ cond b x 0
+pub some_if : (b : Bool) (x : ℕ) → 0 < x → cond {A = ℕ} b 1 0 ≤ cond b x 0
 some_if true x h = omega (arith, h)
 some_if false x h = omega arith
 
-owned_one : (n : ℕ) (o : Option Context) → owns n o ≡ true → owner_numbered n o ≡ 1
+pub owned_one : (n : ℕ) (o : Option Context) → owns n o ≡ true → owner_numbered n o ≡ 1
 owned_one n None h = absurd (false_true h)
 owned_one n (Some c) h = cond-true (nat_eq c.number n) 1 0 h
 
-gone_is : (b : Bool) → 1 ≤ one_if_gone b → b ≡ true
+pub gone_is : (b : Bool) → 1 ≤ one_if_gone b → b ≡ true
 gone_is true h = refl
 gone_is false h = absurd (omega (arith, h))
 

@@ -105,6 +105,10 @@ allowed_on r (Serve k slot) m = no_key m.must && of_owner (asks slot) (m.control
 allowed_on r (Deliver k slot) m = no_key m.must && of_owner (has slot) (m.controls k).owner
 allowed_on r Send m = no_key m.must && none_first_on m.unsent m
 
+-- the same control, with these keys as those of rows
+abbrev pub over_keys : List Key → MachineControl → MachineControl
+over_keys ks m = record { wm = m.wm; epoch = m.epoch; keys = ks; controls = m.controls; must = m.must; unsent = m.unsent }
+
 -- no owner, and nothing that waits
 pub record IsFreeOn (c : KeyControl) : Type 0 where
   pub owner : c.owner ≡ None

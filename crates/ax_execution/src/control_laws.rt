@@ -1,13 +1,19 @@
 //! Laws of the controls that are reached: by events that are allowed each at its place, from an origin, whatever the cells answered.
-ghost use Rattle.std.specs.Prelude.{◌≡◌, ℕ, ◌+◌, ◌≤◌, ◌<◌, List, ◌∷◌, length, Option};
+ghost use Rattle.std.specs.Prelude.{◌≡◌, ℕ, ◌+◌, ◌≤◌, ◌<◌, List, [], ◌∷◌, length, true, Option, Some};
 ghost use Rattle.ax_text.specs.declared.vocabulary.Answer.{Answer};
 ghost use Rattle.ax_text.specs.Programs.{Program};
+ghost use Rattle.ax_text.specs.Underway.{SlotsRise};
+ghost use Rattle.ax_machine.specs.Entries.{Key};
 ghost use Rattle.ax_execution.specs.Accepted.{AreAccepted};
+ghost use Rattle.ax_execution.specs.Asks.{owner_waits, waits_behind, AreOutside, slots_beside};
+ghost use Rattle.ax_execution.specs.Contexts.{Context};
+ghost use Rattle.ax_execution.specs.Counts.{references};
 ghost use Rattle.ax_execution.specs.Origins.{Origin, IsOrigin};
-ghost use Rattle.ax_execution.specs.Machine.{Closed, Happening, Rules, machine_from, machine_of};
+ghost use Rattle.ax_execution.specs.Machine.{Closed, Happening, Start, Deliver, Rules, machine_from, machine_of};
 ghost use Rattle.ax_execution.specs.Allowed.{IsRun};
-ghost use Rattle.ax_execution.specs.MachineControls.{MachineControl, control_of_machine, at_origin, happens_on, epoch_count_on};
-ghost use Rattle.ax_execution.specs.ControlsAllowed.{IsFinishedOn, AllowedOn, IsAnswered};
+ghost use Rattle.ax_execution.specs.MachineControls.{MachineControl, control_of_machine, at_origin, happens_on, outcome_on, epoch_count_on, number_count_on, reference_count_on};
+ghost use Rattle.ax_execution.specs.ControlsAllowed.{IsFinishedOn, AllowedOn, IsAnswered, allowed_on, over_keys, HoldBusy};
+ghost use Rattle.ax_execution.specs.ControlChanges.{calls_on};
 ghost use Rattle.ax_execution.specs.ControlOrder.{IsInOrder, AreSound};
 ghost use Rattle.ax_execution.specs.Reached.{IsReached, owed_in, IsOrderly};
 ghost use Rattle.ax_execution.specs.OwedChanges.{owed_more, owed_less};
@@ -46,4 +52,34 @@ pub fn finished_epochs_count_nothing()
     ensures counts { (r : Rules) (p : Program) (m : MachineControl) (e : ℕ) → AreAccepted p → IsReached r p m → ((u : ℕ) → u ≤ e → epoch_count_on u m ≡ 0) → IsFinishedOn e m }
     ensures sent { (r : Rules) (p : Program) (m : MachineControl) (e : ℕ) → AreAccepted p → IsReached r p m → e + length m.unsent < m.epoch → IsFinishedOn e m }
     ensures first { (r : Rules) (p : Program) (m : MachineControl) (c : Closed) (cs : List Closed) → AreAccepted p → IsReached r p m → m.unsent ≡ c ∷ cs → epoch_count_on c.epoch m ≡ 0 → IsFinishedOn c.epoch m }
+{}
+
+/// Which events are allowed is decided by the test over the keys of rows, or over any others that rise and hold the busy ones.
+pub fn reached_events_are_decided()
+    ensures passes { (r : Rules) (p : Program) (m : MachineControl) (e : Happening) → AreAccepted p → IsReached r p m → AllowedOn r e m → allowed_on r e m ≡ true }
+    ensures is_so { (r : Rules) (p : Program) (m : MachineControl) (e : Happening) → AreAccepted p → IsReached r p m → allowed_on r e m ≡ true → AllowedOn r e m }
+    ensures busy { (r : Rules) (e : Happening) (ks : List Key) (m : MachineControl) → HoldBusy ks m → HoldBusy m.keys m → allowed_on r e (over_keys ks m) ≡ allowed_on r e m }
+{}
+
+/// The owner of a key has a reference left. A context is in flight exactly while it has some, and it is given up exactly at the event that
+/// leaves none.
+pub fn reached_references_are_counted()
+    ensures referred { (r : Rules) (p : Program) (m : MachineControl) (k : Key) (c : Context) → AreAccepted p → IsReached r p m → (m.controls k).owner ≡ Some c → 0 < references c.stage }
+    ensures live { (r : Rules) (p : Program) (m : MachineControl) (n : ℕ) → AreAccepted p → IsReached r p m
+        → (number_count_on n m ≡ 0 → reference_count_on n m ≡ 0) × (reference_count_on n m ≡ 0 → number_count_on n m ≡ 0) }
+    ensures gone { (r : Rules) (p : Program) (m : MachineControl) (e : Happening) (a : Option Answer) (n : ℕ) → AreAccepted p → IsReached r p m → AllowedOn r e m
+        → calls_on n e m ≡ true → (outcome_on p e m).gone ≡ true → reference_count_on n (happens_on p e a m) ≡ 0 }
+    ensures last { (r : Rules) (p : Program) (m : MachineControl) (e : Happening) (a : Option Answer) (n : ℕ) → AreAccepted p → IsReached r p m → AllowedOn r e m
+        → calls_on n e m ≡ true → reference_count_on n (happens_on p e a m) ≡ 0 → (outcome_on p e m).gone ≡ true }
+{}
+
+/// What a callback asks is what its context waits for behind it and did not before: at its start just that, at a delivery that in the
+/// place of what was answered. Its slots rise, and none is one that still waits. No other event asks, nor changes what waits.
+pub fn reached_asks_are_what_waits()
+    ensures waits { (r : Rules) (p : Program) (m : MachineControl) (e : Happening) (a : Option Answer) (k : Key) → AreAccepted p → IsReached r p m → AllowedOn r e m
+        → owner_waits ((happens_on p e a m).controls k).owner ≡ waits_behind k e (outcome_on p e m).asks (owner_waits (m.controls k).owner) }
+    ensures rise { (r : Rules) (p : Program) (m : MachineControl) (e : Happening) → AreAccepted p → IsReached r p m → AllowedOn r e m → SlotsRise (outcome_on p e m).asks }
+    ensures new { (r : Rules) (p : Program) (m : MachineControl) (k : Key) (slot : ℕ) → AreAccepted p → IsReached r p m → AllowedOn r (Deliver k slot) m
+        → AreOutside (slots_beside slot (owner_waits (m.controls k).owner)) (outcome_on p (Deliver k slot) m).asks }
+    ensures none { (p : Program) (e : Happening) (m : MachineControl) → ((k : Key) → e ≡ Start k → ⊥) → ((k : Key) (slot : ℕ) → e ≡ Deliver k slot → ⊥) → (outcome_on p e m).asks ≡ [] }
 {}

@@ -153,6 +153,7 @@ pub fn asks_are_what_waits()
         → SlotsRise (outcome g p e (machine_of g p from es)).asks }
     ensures new { (r : Rules) (g : ℕ) (p : Program) (from : Origin) (es : List Happening) (k : Key) (slot : ℕ) → AreAccepted p → IsOrigin p from → IsRun r g p es (machine_from from) → Allowed r (Deliver k slot) (machine_of g p from es)
         → AreOutside (slots_beside slot (owner_waits ((machine_of g p from es).parts k).owner)) (outcome g p (Deliver k slot) (machine_of g p from es)).asks }
+    ensures none { (g : ℕ) (p : Program) (e : Happening) (m : Machine) → ((k : Key) → e ≡ Start k → ⊥) → ((k : Key) (slot : ℕ) → e ≡ Deliver k slot → ⊥) → (outcome g p e m).asks ≡ [] }
 {}
 
 /// As many requests wait behind a start as it asks, and behind a delivery as many as before, those that it asks, and one fewer. A
