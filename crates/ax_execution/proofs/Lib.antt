@@ -1,4 +1,5 @@
 pub mod ReachedCounts
+pub mod RestWork
 pub mod ControlTests
 pub mod ControlReferences
 pub mod ControlWaits

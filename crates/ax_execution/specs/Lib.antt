@@ -18,5 +18,6 @@ pub mod ControlsAllowed
 pub mod ControlChanges
 pub mod ControlOrder
 pub mod Rows
+pub mod EdgeRows
 pub mod Reached
 pub mod OwedChanges

@@ -174,11 +174,12 @@ pub fn never_stuck()
 {}
 
 /// Each event that takes nothing of the input takes exactly one from the work left. What was said so far is no part of it:
-/// it is computed from the control and the cells alone.
+/// it is computed from the control and the cells alone. At rest none is left.
 pub fn work_falls()
     ensures falls { (r : Rules) (g : ℕ) (p : Program) (from : Origin) (es : List Happening) (e : Happening) → AreAccepted p → IsOrigin p from → IsRun r g p es (machine_from from) → IsWork e → Allowed r e (machine_of g p from es)
         → suc (work p (happens g p e (machine_of g p from es))) ≡ work p (machine_of g p from es) }
     ensures silent { (p : Program) (part : Part) → AreAccepted p → part_work p part ≡ part_work p (silent_part part) }
+    ensures rest { (p : Program) (m : Machine) → IsAtRest m → work p m ≡ 0 }
 {}
 
 /// Where nothing is in flight and every marker is sent, the machine is at rest, and only there. No key waits to fire there.

@@ -1,11 +1,13 @@
 //! The asynchronous machine of seven events, and its laws, in serial and in parallel mode. No program uses it yet.
 //!
-//! The definitions stand in `specs/`. The functions of `laws`, `controls`, `control_laws` and `rows` do nothing; their contracts are laws over the definitions.
+//! The definitions stand in `specs/`. The functions of the modules of laws and rows do nothing; their contracts are laws over the definitions.
 #![tactic(auto)]
 
 pub mod constants;
 pub mod control_laws;
+pub mod control_rows;
 pub mod controls;
+pub mod edge_rows;
 pub mod laws;
 pub mod rows;
 

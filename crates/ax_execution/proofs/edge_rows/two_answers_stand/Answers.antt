@@ -1,0 +1,26 @@
+use Rattle.std.proofs.Common.{refl}
+use Rattle.std.specs.Fmt.{digits}
+use Rattle.ax_text.specs.Exprs.{apply_op}
+use Rattle.ax_text.specs.Controls.{begin, give, least_free}
+use Rattle.ax_machine.specs.Firings.{most_firings}
+use Rattle.ax_execution.proofs.edge_rows.two_answers_stand.Goals as goal
+
+pub returns-clause-runs : goal.returns-clause-runs
+unfolding digits apply_op most_firings begin give least_free
+returns-clause-runs c = refl
+
+pub returns-clause-first : goal.returns-clause-first
+unfolding digits apply_op most_firings begin give least_free
+returns-clause-first c = refl
+
+pub returns-clause-second : goal.returns-clause-second
+unfolding digits apply_op most_firings begin give least_free
+returns-clause-second c = refl
+
+pub returns-clause-again : goal.returns-clause-again
+unfolding digits apply_op most_firings begin give least_free
+returns-clause-again c = refl
+
+pub returns-clause-writes : goal.returns-clause-writes
+unfolding digits apply_op most_firings begin give least_free
+returns-clause-writes c = refl
