@@ -18,7 +18,6 @@ use Rattle.ax_execution.specs.Groups.{row_facts}
 use Rattle.ax_execution.specs.Contexts.{Running, running_group, Stage, Unbegun, Begun, Context, Waiting, Row, Mark, Part, is_due, may_fire}
 use Rattle.ax_execution.specs.Turns.{handed, timed, closed_with, left_by, called_back, begins, start_stage, start_owner, start, serve_request, serve_stage, serve_owner, serve, gives, give_answer, deliver_stage, deliver_owner, deliver, fire_due, fire_front, fire, admit_at, admit, mark_at, mark}
 use Rattle.ax_execution.specs.Machine.{ByWatermark, ByBarrier, Closed, Machine, Happening, Admit, Close, Fire, Start, Serve, Deliver, Send, part_at, send_first, happens}
-use Rattle.ax_execution.specs.ControlChanges.{serves}
 use Rattle.ax_execution.proofs.Upto.{by_cases}
 
 abbrev cells_of : Part → Cells
@@ -103,13 +102,15 @@ sent_keeps : (g : ℕ) (p : Program) (cs : List Closed) (m : Machine) (k : Key) 
 sent_keeps g p [] m k = refl
 sent_keeps g p (c ∷ cs) m k = refl
 
-pub only_serve : (g : ℕ) (p : Program) (e : Happening) (m : Machine) (k : Key) → serves k e ≡ false → ((happens g p e m).parts k).said.state.cells ≡ (m.parts k).said.state.cells
+pub only_serve : (g : ℕ) (p : Program) (e : Happening) (m : Machine) (k : Key) → ((slot : ℕ) → e ≡ Serve k slot → ⊥) → ((happens g p e m).parts k).said.state.cells ≡ (m.parts k).said.state.cells
 only_serve g p (Admit n j time values) m k h = at_key m.parts j (admit n m.epoch (row_facts m.wm time values) (m.parts j)) (admit_keeps n m.epoch (row_facts m.wm time values) (m.parts j)) k
 only_serve g p (Close (ByWatermark w)) m k h = mark_keeps m.epoch w most_firings (m.parts k)
 only_serve g p (Close (ByBarrier id)) m k h = refl
 only_serve g p (Fire n j) m k h = at_key m.parts j (fire n (m.parts j)) (fire_keeps n (m.parts j)) k
 only_serve g p (Start j) m k h = at_key m.parts j (start p (m.parts j)) (start_keeps p (m.parts j)) k
-only_serve g p (Serve j slot) m k h = ap cells_of (cond-false (bytes_eq j k) (serve slot (m.parts j)) (m.parts k) h)
+only_serve g p (Serve j slot) m k h = by_cases (bytes_eq j k)
+    (λ x. absurd (h slot (ap (λ (i : Key). Serve i slot) (key_is j k x))))
+    (λ x. ap cells_of (cond-false (bytes_eq j k) (serve slot (m.parts j)) (m.parts k) x))
 only_serve g p (Deliver j slot) m k h = at_key m.parts j (deliver slot (m.parts j)) (deliver_keeps slot (m.parts j)) k
 only_serve g p Send m k h = sent_keeps g p m.unsent m k
 

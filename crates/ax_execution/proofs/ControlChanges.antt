@@ -19,17 +19,17 @@ use Rattle.ax_machine.specs.Firings.{most_firings}
 use Rattle.ax_machine.proofs.FiringLemmas.{same_key}
 use Rattle.ax_execution.specs.Groups.{row_facts}
 use Rattle.ax_execution.specs.Sums.{total}
-use Rattle.ax_execution.specs.Contexts.{Running, Stage, Unbegun, Begun, Context, new_context, Waiting, Row, Mark, is_due, may_fire, is_idle_with}
+use Rattle.ax_execution.specs.Contexts.{Running, Stage, Unbegun, Begun, Context, new_context, Waiting, Row, Mark, Part, is_due, may_fire, is_idle_with}
 use Rattle.ax_execution.specs.Turns.{begins, gives, staged, owner_starts, owner_gives, answer_gives}
 use Rattle.ax_execution.specs.KeyControls.{KeyControl, keeps_answer}
 use Rattle.ax_execution.specs.ControlTurns.{is_idle_on, handed_on, paused, called_back_on, start_owner_on, start_on, give_answer_on, deliver_owner_on, deliver_on, fire_due_on, fire_front_on, fire_on, admit_at_on, admit_on, mark_at_on, mark_on}
 use Rattle.ax_execution.specs.Rest.{silent}
-use Rattle.ax_execution.specs.Machine.{ByWatermark, ByBarrier, Closed, Machine, Happening, Admit, Close, Fire, Start, Serve, Deliver, Send, Rules, happens, outcome}
+use Rattle.ax_execution.specs.Machine.{ByWatermark, ByBarrier, Closed, Machine, Happening, Admit, Close, Fire, Start, Serve, Deliver, Send, Rules, part_at, must_fire, happens, outcome}
 use Rattle.ax_execution.specs.Allowed.{StageUnbegun, StageAsks, StageHas, OfOwner, Allowed}
 use Rattle.ax_execution.specs.Counts.{one_at, owner_of_epoch, waiting_of_epoch, epoch_count, counted}
 use Rattle.ax_execution.specs.MachineControls.{MachineControl, control_of_machine, control_at, must_fire_on, send_first_on, happens_on, answer_of_event, outcome_on, control_of_epoch, epoch_count_on}
 use Rattle.ax_execution.specs.ControlsAllowed.{AllowedOn, IsFreeOn, HoldBusy}
-use Rattle.ax_execution.specs.ControlChanges.{mark_stays_at, mark_stays, marks_off, enters, leaves, must_behind}
+use Rattle.ax_execution.specs.ControlChanges.{mark_stays_at, mark_stays, marks_off, enters, leaves}
 use Rattle.ax_execution.proofs.Upto.{by_cases}
 use Rattle.ax_execution.proofs.ControlSums.{shifted, entered}
 use Rattle.ax_execution.proofs.Orderly.{IsOrderly}
@@ -253,22 +253,26 @@ module _ (m : MachineControl) (busy : HoldBusy m.keys m) where
 
 -- the key that must fire
 
-own_must : (m : MachineControl) (k : Key) (q : KeyControl) → must_fire_on k q ≡ must_fire_on k (control_at m.controls k q k)
-own_must m k q = ap (must_fire_on k) (sym (cond-true (bytes_eq k k) q (m.controls k) (same_key k)))
+pub own_must : (controls : Key → KeyControl) (k : Key) (q : KeyControl) → must_fire_on k q ≡ must_fire_on k (control_at controls k q k)
+own_must controls k q = ap (must_fire_on k) (sym (cond-true (bytes_eq k k) q (controls k) (same_key k)))
+
+pub own_fire : (parts : Key → Part) (k : Key) (q : Part) → must_fire k q ≡ must_fire k (part_at parts k q k)
+own_fire parts k q = ap (must_fire k) (sym (cond-true (bytes_eq k k) q (parts k) (same_key k)))
 
 sent_must : (cs : List Closed) (m : MachineControl) → (send_first_on cs m).must ≡ m.must
 sent_must [] m = refl
 sent_must (c ∷ cs) m = refl
 
-pub must_is : (r : Rules) (p : Program) (e : Happening) (a : Option Answer) (m : MachineControl) → AllowedOn r e m → (happens_on p e a m).must ≡ must_behind e (happens_on p e a m)
-must_is r p (Admit n k time values) a m h = h.0
-must_is r p (Close (ByWatermark w)) a m h = h.0
-must_is r p (Close (ByBarrier id)) a m h = h.0
-must_is r p (Fire n k) a m h = refl
-must_is r p (Start k) a m h = own_must m k (start_on p (m.controls k))
-must_is r p (Serve k slot) a m h = h.0
-must_is r p (Deliver k slot) a m h = own_must m k (deliver_on slot (m.controls k))
-must_is r p Send a m h = sent_must m.unsent m ∙ h.0
+pub none_must : (r : Rules) (p : Program) (e : Happening) (a : Option Answer) (m : MachineControl) → AllowedOn r e m
+    → ((k : Key) → e ≡ Start k → ⊥) → ((k : Key) (slot : ℕ) → e ≡ Deliver k slot → ⊥) → (happens_on p e a m).must ≡ None
+none_must r p (Admit n k time values) a m h s d = h.0
+none_must r p (Close (ByWatermark w)) a m h s d = h.0
+none_must r p (Close (ByBarrier id)) a m h s d = h.0
+none_must r p (Fire n k) a m h s d = refl
+none_must r p (Start k) a m h s d = absurd (s k refl)
+none_must r p (Serve k slot) a m h s d = h.0
+none_must r p (Deliver k slot) a m h s d = absurd (d k slot refl)
+none_must r p Send a m h s d = sent_must m.unsent m ∙ h.0
 
 -- and of the machine itself
 
@@ -289,7 +293,6 @@ machine_epochs r m o rises g p u e h =
     ap₂ (λ (x : Bool) (y : MachineControl). leaves u e x c y) (gone_on g p e m) same in
     omega arith
 
-pub machine_must : (r : Rules) (g : ℕ) (p : Program) (e : Happening) (m : Machine) → Allowed r e m → (happens g p e m).must ≡ must_behind e (control_of_machine (happens g p e m))
-machine_must r g p e m h =
-    ap (λ (c : MachineControl). c.must) (event_control g p e m)
-    ∙ (must_is r p e (answer_of_event e m) (control_of_machine m) (allowed_to r e m h) ∙ ap (must_behind e) (sym (event_control g p e m)))
+pub machine_must : (r : Rules) (g : ℕ) (p : Program) (e : Happening) (m : Machine) → Allowed r e m
+    → ((k : Key) → e ≡ Start k → ⊥) → ((k : Key) (slot : ℕ) → e ≡ Deliver k slot → ⊥) → (happens g p e m).must ≡ None
+machine_must r g p e m h s d = ap (λ (c : MachineControl). c.must) (event_control g p e m) ∙ none_must r p e (answer_of_event e m) (control_of_machine m) (allowed_to r e m h) s d

@@ -1,5 +1,5 @@
 -- A context of a control is in flight exactly while it has references, and it is given up where a callback leaves none.
-use Rattle.std.proofs.Common.{◌≡◌, ℕ, ◌+◌, ◌≤◌, ◌<◌, nat_eq, List, Bool, true, false, cond, Option, Some, None, refl, ap, arith, subst}
+use Rattle.std.proofs.Common.{◌≡◌, ℕ, ◌+◌, ◌≤◌, ◌<◌, nat_eq, true, false, Option, Some, None, refl, ap, arith, subst}
 use Rattle.std.proofs.lemmas.Bool.{cond-true}
 use Rattle.std.specs.Str.{bytes_eq}
 use Rattle.std.specs.List.{list_any}

@@ -1,14 +1,13 @@
 -- The test decides which events are allowed in a control, over the keys of rows or any others that hold the busy ones.
-use Rattle.std.proofs.Common.{◌≡◌, ℕ, ◌<◌, nat_lt, List, [], ◌∷◌, Bool, true, false, ◌&&◌, not, Option, refl, sym, ap, ap₂, ◌∙◌, subst, ⊎_elim}
+use Rattle.std.proofs.Common.{◌≡◌, ℕ, nat_lt, List, [], ◌∷◌, Bool, true, false, ◌&&◌, not, Option, refl, sym, ap, ap₂, ◌∙◌, subst, ⊎_elim}
 use Rattle.std.proofs.lemmas.Bool.{and_parts, and_from}
 use Rattle.std.specs.Str.{bytes_eq}
 use Rattle.std.specs.List.{list_any}
 use Rattle.ax_machine.specs.Entries.{Key}
 use Rattle.ax_machine.proofs.FiringLemmas.{among}
-use Rattle.ax_execution.specs.Sums.{total}
 use Rattle.ax_execution.specs.Contexts.{Context, Waiting, is_idle_with}
 use Rattle.ax_execution.specs.KeyControls.{KeyControl}
-use Rattle.ax_execution.specs.ControlTurns.{is_idle_on, contexts_on}
+use Rattle.ax_execution.specs.ControlTurns.{contexts_on}
 use Rattle.ax_execution.specs.Machine.{ByWatermark, ByBarrier, Closed, Machine, Happening, Admit, Close, Fire, Start, Serve, Deliver, Send, Rules}
 use Rattle.ax_execution.specs.Tests.{owner_new, waiting_new, owned_later, wait_later}
 use Rattle.ax_execution.specs.MachineControls.{MachineControl, control_of_machine, in_flight_on}

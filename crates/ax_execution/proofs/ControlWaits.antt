@@ -1,9 +1,7 @@
 -- What waits at each key of a control behind an event, and what is asked.
 use Rattle.std.proofs.Common.{◌≡◌, ℕ, List, [], ◌∷◌, Some, None, Option, refl, sym, ap, ◌∙◌, subst}
 use Rattle.std.proofs.lemmas.Bool.{cond-true, cond-false}
-use Rattle.std.specs.List.Sorted.{IsStrictlySortedBy}
 use Rattle.std.specs.Str.{bytes_eq}
-use Rattle.ax_keys.specs.Keys.{key_cmp}
 use Rattle.ax_text.specs.declared.vocabulary.Answer.{Answer}
 use Rattle.ax_text.specs.Controls.{Ask' as Asked}
 use Rattle.ax_text.specs.Programs.{Program}

@@ -1,13 +1,11 @@
--- What an event changes of the machine's control: the rows and marks of an epoch, and the key that must fire.
+-- What an event changes of the machine's control: the rows and marks of an epoch.
 use Rattle.std.specs.Prelude.{ℕ, ◌+◌, nat_eq, ℤ, List, [], ◌∷◌, Bool, false, if◌then◌else◌, Option, None}
-use Rattle.std.specs.Str.{bytes_eq}
-use Rattle.ax_machine.specs.Entries.{Key}
 use Rattle.ax_execution.specs.Sums.{total}
 use Rattle.ax_execution.specs.Contexts.{Context, Waiting, Row, Mark, is_due, may_fire}
 use Rattle.ax_execution.specs.KeyControls.{KeyControl}
 use Rattle.ax_execution.specs.Machine.{ByWatermark, ByBarrier, Happening, Admit, Close, Fire, Start, Serve, Deliver, Send}
 use Rattle.ax_execution.specs.Counts.{one_at, owner_of_epoch, owns, counted}
-use Rattle.ax_execution.specs.MachineControls.{MachineControl, must_fire_on}
+use Rattle.ax_execution.specs.MachineControls.{MachineControl}
 
 -- one where a mark that comes stays: where the key isn't free, or a timer is due
 abbrev pub mark_stays_at : ℤ → Option Context → List Waiting → List ℤ → ℕ
@@ -46,26 +44,6 @@ leaves u (Start k) gone before behind = counted gone (leaves_key u (before.contr
 leaves u (Serve k slot) gone before behind = 0
 leaves u (Deliver k slot) gone before behind = counted gone (leaves_key u (before.controls k) (behind.controls k))
 leaves u Send gone before behind = 0
-
--- the key that must fire behind an event: the one whose callback has ended, if it is idle there
-abbrev pub must_behind : Happening → MachineControl → Option Key
-must_behind (Admit n k time values) behind = None
-must_behind (Close c) behind = None
-must_behind (Fire n k) behind = None
-must_behind (Start k) behind = must_fire_on k (behind.controls k)
-must_behind (Serve k slot) behind = None
-must_behind (Deliver k slot) behind = must_fire_on k (behind.controls k)
-must_behind Send behind = None
-
--- whether an event serves a request of a key
-abbrev pub serves : Key → Happening → Bool
-serves k (Admit n j time values) = false
-serves k (Close c) = false
-serves k (Fire n j) = false
-serves k (Start j) = false
-serves k (Serve j slot) = bytes_eq j k
-serves k (Deliver j slot) = false
-serves k Send = false
 
 -- whether a callback of a context with this number runs
 abbrev pub calls_on : ℕ → Happening → MachineControl → Bool

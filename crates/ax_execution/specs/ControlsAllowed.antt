@@ -119,7 +119,7 @@ pub record HoldBusy (ks : List Key) (m : MachineControl) : Type 0 where
   pub rise : IsStrictlySortedBy key_cmp ks
   pub others : (k : Key) → list_any (bytes_eq k) ks ≡ false → IsFreeOn (m.controls k)
 
--- rising keys, and each other key was never touched: no owner, nothing that waits, no timer
+-- rising keys, and each other key has no owner, nothing that waits and no timer
 pub record AreAllKeys (m : MachineControl) : Type 0 where
   pub rise : IsStrictlySortedBy key_cmp m.keys
   pub others : (k : Key) → list_any (bytes_eq k) m.keys ≡ false → IsFreeOn (m.controls k)

@@ -1,5 +1,5 @@
 //! Laws of the control: what of the machine a controller knows goes on by itself, whatever cells gave the answers.
-ghost use Rattle.std.specs.Prelude.{◌≡◌, ℕ, ◌+◌, List, ◌++◌, length, false, Option, Some};
+ghost use Rattle.std.specs.Prelude.{◌≡◌, ℕ, ◌+◌, List, ◌++◌, length, Option, Some, None};
 ghost use Rattle.ax_text.specs.declared.vocabulary.Answer.{Answer};
 ghost use Rattle.ax_text.specs.declared.vocabulary.Request.{Request};
 ghost use Rattle.ax_text.specs.Cells.{Cells, cells_after};
@@ -10,15 +10,15 @@ ghost use Rattle.ax_execution.specs.Accepted.{AreAccepted};
 ghost use Rattle.ax_execution.specs.Sums.{total};
 ghost use Rattle.ax_execution.specs.Contexts.{Running, Begun, Context};
 ghost use Rattle.ax_execution.specs.Origins.{Origin, IsOrigin};
-ghost use Rattle.ax_execution.specs.Machine.{Machine, Happening, Serve, Rules, happens, after_all, outcome, machine_from, machine_of, in_flight, work};
+ghost use Rattle.ax_execution.specs.Machine.{Machine, Happening, Start, Serve, Deliver, Rules, must_fire, happens, after_all, outcome, machine_from, machine_of, in_flight, work};
 ghost use Rattle.ax_execution.specs.Counts.{AreDistinct, epoch_count, number_count, reference_count, one_if_gone, made, made_as, counted};
 ghost use Rattle.ax_execution.specs.Allowed.{Allowed, IsRun};
 ghost use Rattle.ax_execution.specs.Tests.{allowed};
 ghost use Rattle.ax_execution.specs.ControlTurns.{contexts_on};
-ghost use Rattle.ax_execution.specs.MachineControls.{MachineControl, control_of_machine, at_origin, happens_on, answer_of_event, outcome_on, sent_entries, in_flight_on, control_of_epoch, epoch_count_on, control_numbered, number_count_on, control_references, reference_count_on, control_work, work_on};
+ghost use Rattle.ax_execution.specs.MachineControls.{MachineControl, control_of_machine, at_origin, must_fire_on, happens_on, answer_of_event, outcome_on, sent_entries, in_flight_on, control_of_epoch, epoch_count_on, control_numbered, number_count_on, control_references, reference_count_on, control_work, work_on};
 ghost use Rattle.ax_execution.specs.ControlsAllowed.{AllowedOn, IsRunOn, after_all_on, with_answers, allowed_on, HoldBusy, AreAllKeys};
 ghost use Rattle.ax_execution.specs.ControlOrder.{IsInOrder, IsSoundRunning, AreSound};
-ghost use Rattle.ax_execution.specs.ControlChanges.{enters, leaves, must_behind, serves, calls_on};
+ghost use Rattle.ax_execution.specs.ControlChanges.{enters, leaves, calls_on};
 
 /// The control of the machine behind an event is that event of its control, with the answer that the cells give where a request is
 /// served; so is that behind many events, and that at an origin.
@@ -63,7 +63,8 @@ pub fn busy_keys_are_enough()
         → HoldBusy (machine_of g p from es).keys (control_of_machine (machine_of g p from es)) }
 {}
 
-/// A control's keys are all that ever had anything: at an origin, and behind each event that is allowed. So they hold the busy ones.
+/// A control's keys are all that have an owner, something that waits or a timer: at an origin, and behind each event that is allowed. So they
+/// hold the busy ones.
 pub fn keys_stay_all()
     ensures origin { (p : Program) (from : Origin) → IsOrigin p from → AreAllKeys (at_origin from) }
     ensures event { (r : Rules) (p : Program) (e : Happening) (a : Option Answer) (m : MachineControl) → AreAllKeys m → AllowedOn r e m → AreAllKeys (happens_on p e a m) }
@@ -104,7 +105,7 @@ pub fn contexts_come_and_go()
 
 /// Only a serve changes cells, and only those of its key: by what is asked at its slot.
 pub fn only_serves_change_cells()
-    ensures others { (g : ℕ) (p : Program) (e : Happening) (m : Machine) (k : Key) → serves k e ≡ false → ((happens g p e m).parts k).said.state.cells ≡ (m.parts k).said.state.cells }
+    ensures others { (g : ℕ) (p : Program) (e : Happening) (m : Machine) (k : Key) → ((slot : ℕ) → e ≡ Serve k slot → ⊥) → ((happens g p e m).parts k).said.state.cells ≡ (m.parts k).said.state.cells }
     ensures served { (g : ℕ) (p : Program) (m : Machine) (k : Key) (slot : ℕ) (c : Context) (running : Running) (q : Request)
         → (m.parts k).owner ≡ Some c → c.stage ≡ Begun running → request_at running.control slot ≡ Some q
         → ((happens g p (Serve k slot) m).parts k).said.state.cells ≡ cells_after q (m.parts k).said.state.cells }
@@ -124,8 +125,14 @@ pub fn epochs_gain_and_lose()
 
 /// Behind a callback its key must fire exactly where it is idle there, and behind any other event that is allowed no key must.
 pub fn callbacks_say_who_must_fire()
-    ensures control { (r : Rules) (p : Program) (e : Happening) (a : Option Answer) (m : MachineControl) → AllowedOn r e m → (happens_on p e a m).must ≡ must_behind e (happens_on p e a m) }
-    ensures machine { (r : Rules) (g : ℕ) (p : Program) (e : Happening) (m : Machine) → Allowed r e m → (happens g p e m).must ≡ must_behind e (control_of_machine (happens g p e m)) }
+    ensures start { (p : Program) (k : Key) (a : Option Answer) (m : MachineControl) → (happens_on p (Start k) a m).must ≡ must_fire_on k ((happens_on p (Start k) a m).controls k) }
+    ensures deliver { (p : Program) (k : Key) (slot : ℕ) (a : Option Answer) (m : MachineControl) → (happens_on p (Deliver k slot) a m).must ≡ must_fire_on k ((happens_on p (Deliver k slot) a m).controls k) }
+    ensures none { (r : Rules) (p : Program) (e : Happening) (a : Option Answer) (m : MachineControl) → AllowedOn r e m
+        → ((k : Key) → e ≡ Start k → ⊥) → ((k : Key) (slot : ℕ) → e ≡ Deliver k slot → ⊥) → (happens_on p e a m).must ≡ None }
+    ensures machine_start { (g : ℕ) (p : Program) (k : Key) (m : Machine) → (happens g p (Start k) m).must ≡ must_fire k ((happens g p (Start k) m).parts k) }
+    ensures machine_deliver { (g : ℕ) (p : Program) (k : Key) (slot : ℕ) (m : Machine) → (happens g p (Deliver k slot) m).must ≡ must_fire k ((happens g p (Deliver k slot) m).parts k) }
+    ensures machine_none { (r : Rules) (g : ℕ) (p : Program) (e : Happening) (m : Machine) → Allowed r e m
+        → ((k : Key) → e ≡ Start k → ⊥) → ((k : Key) (slot : ℕ) → e ≡ Deliver k slot → ⊥) → (happens g p e m).must ≡ None }
 {}
 
 /// The work left is computed from the control and the cells alone, and over any rising keys that hold the busy ones.
