@@ -2,12 +2,13 @@
 ghost use Rattle.std.specs.Prelude.{◌≡◌, ℕ, ◌+◌, ◌≤◌, ◌<◌, List, [], ◌∷◌, length, true, Option, Some};
 ghost use Rattle.ax_text.specs.declared.vocabulary.Answer.{Answer};
 ghost use Rattle.ax_text.specs.Programs.{Program};
+ghost use Rattle.ax_text.specs.Controls.{slots};
 ghost use Rattle.ax_text.specs.Underway.{SlotsRise};
 ghost use Rattle.ax_machine.specs.Entries.{Key};
 ghost use Rattle.ax_execution.specs.Accepted.{AreAccepted};
 ghost use Rattle.ax_execution.specs.Asks.{owner_waits, waits_behind, AreOutside, slots_beside};
-ghost use Rattle.ax_execution.specs.Contexts.{Context};
-ghost use Rattle.ax_execution.specs.Counts.{references, one_if_gone, made, made_as, counted};
+ghost use Rattle.ax_execution.specs.Contexts.{Running, Begun, Context};
+ghost use Rattle.ax_execution.specs.Counts.{references, AreDistinct, one_if_gone, made, made_as, counted};
 ghost use Rattle.ax_execution.specs.Origins.{Origin, IsOrigin};
 ghost use Rattle.ax_execution.specs.Machine.{Closed, Happening, Start, Deliver, Rules, machine_from, machine_of};
 ghost use Rattle.ax_execution.specs.Allowed.{IsRun};
@@ -76,9 +77,11 @@ pub fn reached_events_are_decided()
     ensures busy { (r : Rules) (e : Happening) (ks : List Key) (m : MachineControl) → HoldBusy ks m → HoldBusy m.keys m → allowed_on r e (over_keys ks m) ≡ allowed_on r e m }
 {}
 
-/// The owner of a key has a reference left. A context is in flight exactly while it has some, and it is given up exactly at the event that
-/// leaves none.
+/// The owner of a key has a reference left, and waits at slots that differ. A context is in flight exactly while it has references, and it is
+/// given up exactly at the event that leaves none.
 pub fn reached_references_are_counted()
+    ensures slots { (r : Rules) (p : Program) (m : MachineControl) (k : Key) (c : Context) (running : Running) → AreAccepted p → IsReached r p m
+        → (m.controls k).owner ≡ Some c → c.stage ≡ Begun running → AreDistinct (slots running.control) }
     ensures referred { (r : Rules) (p : Program) (m : MachineControl) (k : Key) (c : Context) → AreAccepted p → IsReached r p m → (m.controls k).owner ≡ Some c → 0 < references c.stage }
     ensures live { (r : Rules) (p : Program) (m : MachineControl) (n : ℕ) → AreAccepted p → IsReached r p m
         → (number_count_on n m ≡ 0 → reference_count_on n m ≡ 0) × (reference_count_on n m ≡ 0 → number_count_on n m ≡ 0) }

@@ -1,17 +1,17 @@
 //! Worked rows of what is counted in controls, and what the conditions on them refuse.
-ghost use Rattle.std.specs.Prelude.{◌≡◌, [], ◌∷◌, ◌++◌, pos, true, false};
+ghost use Rattle.std.specs.Prelude.{◌≡◌, [], ◌∷◌, ◌++◌, pos, true, false, Some};
 ghost use Rattle.ax_text.specs.declared.vocabulary.Request.TheVariants as request;
 ghost use Rattle.ax_machine.specs.Events as event;
 ghost use Rattle.ax_machine.specs.Events.{without_skipped};
 ghost use Rattle.ax_machine.specs.Examples.{counting, alarm};
-ghost use Rattle.ax_execution.specs.Contexts.{Row, Mark};
+ghost use Rattle.ax_execution.specs.Contexts.{row_context, Row, Mark};
 ghost use Rattle.ax_execution.specs.Groups.{row_facts};
 ghost use Rattle.ax_execution.specs.Machine.{Admit, Close, ByWatermark, ByBarrier, Start, Serve, Deliver, Send};
 ghost use Rattle.ax_execution.specs.Counts.{AreDistinct};
 ghost use Rattle.ax_execution.specs.Asks.{AreOutside};
 ghost use Rattle.ax_execution.specs.MachineControls.{control_of_machine};
 ghost use Rattle.ax_execution.specs.ControlChanges.{enters, leaves};
-ghost use Rattle.ax_execution.specs.Reached.{IsOpenEpoch, Follow, MarksBelow, MarkInFront, owed_in};
+ghost use Rattle.ax_execution.specs.Reached.{IsOpenEpoch, OwnerOpen, WaitingOpen, Follow, MarksBelow, MarkInFront, owed_in};
 ghost use Rattle.ax_execution.specs.OwedChanges.{owed_less};
 ghost use Rattle.ax_execution.specs.Rows.{a, behind, one_waits, mark_behind, by_turns, crossing};
 ghost use Rattle.ax_execution.specs.EdgeRows.{two_owners, marked};
@@ -46,7 +46,8 @@ pub fn rows_and_marks_of_an_epoch()
 {}
 
 /// What the conditions on controls refuse: a slot that stands twice, one that is used, closed epochs with one left out or none before the
-/// current one, a mark of the current epoch, a firing without its mark in front, an epoch to come and one whose marker was sent.
+/// current one, a mark of the current epoch, a firing without its mark in front, an epoch to come and one whose marker was sent, also of an
+/// owner or a row that waits.
 pub fn conditions_refuse()
     ensures slots { AreDistinct (1 ∷ 2 ∷ 1 ∷ []) → ⊥ }
     ensures used { AreOutside (1 ∷ []) (record { slot = 1; request = request.ValueGet 0 } ∷ []) → ⊥ }
@@ -57,4 +58,6 @@ pub fn conditions_refuse()
     ensures row { MarkInFront 1 (Row 1 1 (row_facts (pos 0) (pos 1) []) ∷ Mark 1 (pos 5) 1 ∷ []) → ⊥ }
     ensures future { IsOpenEpoch (control_of_machine (behind counting [])) 1 → ⊥ }
     ensures sent { IsOpenEpoch (control_of_machine (behind counting (Close (ByWatermark (pos 3)) ∷ Send ∷ []))) 0 → ⊥ }
+    ensures owner { OwnerOpen (control_of_machine (behind counting [])) (Some (row_context 1 1 (row_facts (pos 0) (pos 1) []))) → ⊥ }
+    ensures waits { WaitingOpen (control_of_machine (behind counting [])) (Row 1 1 (row_facts (pos 0) (pos 1) []) ∷ []) → ⊥ }
 {}

@@ -41,3 +41,9 @@ returns-clause-future c h = none h.begun
 pub returns-clause-sent : goal.returns-clause-sent
 unfolding most_firings
 returns-clause-sent c h = none h.unsent
+
+pub returns-clause-owner : goal.returns-clause-owner
+returns-clause-owner c h = none h.begun
+
+pub returns-clause-waits : goal.returns-clause-waits
+returns-clause-waits c h = none h.0.begun
