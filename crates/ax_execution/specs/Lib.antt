@@ -6,10 +6,15 @@ pub mod Contexts
 pub mod Rest
 pub mod Turns
 pub mod KeyControls
+pub mod ControlTurns
 pub mod Machine
 pub mod Counts
+pub mod MachineControls
 pub mod Asks
 pub mod Merges
 pub mod Allowed
 pub mod Tests
+pub mod ControlsAllowed
+pub mod ControlChanges
 pub mod Rows
+pub mod Reached

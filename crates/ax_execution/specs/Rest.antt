@@ -1,6 +1,8 @@
 -- What is still to be run of a key.
 use Rattle.std.specs.Prelude.{ℕ, ◌+◌, ◌-◌, ℤ, List, [], ◌∷◌, Option, Some, None}
 use Rattle.ax_text.specs.declared.vocabulary.Answer.{Answer}
+use Rattle.ax_text.specs.KeyStates.{KeyState}
+use Rattle.ax_text.specs.Run.{World}
 use Rattle.ax_text.specs.Programs.{Program}
 use Rattle.ax_text.specs.Controls.{left, slots}
 use Rattle.ax_text.specs.Jobs.{Job, lines_in}
@@ -8,10 +10,13 @@ use Rattle.ax_execution.specs.Groups.{on_row, weight}
 use Rattle.ax_machine.specs.KeySync.{Said, said_after, ran, key_fires}
 use Rattle.ax_execution.specs.Contexts.{Running, Stage, Unbegun, Begun, Context, Waiting, Row, Mark, Part, part_groups, rows_in}
 
+-- what a handler comes to on these states, with the lines and the requests served so far
+abbrev pub rest_world : Job → Running → KeyState → World
+rest_world j r state = left j.facts r.answers r.control (record { talk = record { names = r.names; lines = r.lines; ops = [] }; cells = state.cells; served = r.served })
+
 -- a handler goes on to its end
 abbrev pub rest_running : Job → Running → Said → Said
-rest_running j r s = said_after j s.state
-    (left j.facts r.answers r.control (record { talk = record { names = r.names; lines = r.lines; ops = [] }; cells = s.state.cells; served = r.served })) s
+rest_running j r s = said_after j s.state (rest_world j r s.state) s
 
 abbrev pub rest_stage : Program → Job → Stage → Said → Said
 rest_stage p j Unbegun s = ran p j s.state s

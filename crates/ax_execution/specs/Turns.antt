@@ -3,13 +3,14 @@ use Rattle.std.specs.Prelude.{ℕ, suc, ◌+◌, ℤ, pos, int_le, Bool, false, 
 use Rattle.ax_text.specs.declared.vocabulary.Request.{Request}
 use Rattle.ax_text.specs.declared.vocabulary.Answer.{Answer}
 use Rattle.ax_text.specs.Functions.{upd}
-use Rattle.ax_text.specs.Exprs.{Names, Facts}
+use Rattle.ax_text.specs.Exprs.{Facts}
 use Rattle.ax_text.specs.Cells.{answer_of, cells_after}
-use Rattle.ax_text.specs.Run.{Talk, times_after}
+use Rattle.ax_text.specs.Run.{times_after}
 use Rattle.ax_text.specs.Programs.{Program}
 use Rattle.ax_machine.specs.Sync.{without_least}
 use Rattle.ax_text.specs.Controls.{Rest, Ask', Turn, begin, give, is_done, request_at}
 use Rattle.ax_text.specs.Jobs.{Job, Group, firing_job, text_for}
+use Rattle.ax_text.specs.Silent.{silent as silent_talk, unanswered}
 use Rattle.ax_machine.specs.KeySync.{Said}
 use Rattle.ax_execution.specs.Contexts.{Running, running_group, Stage, Unbegun, Begun, Context, new_context, row_context, Waiting, Row, Mark, Part, is_due, may_fire}
 
@@ -39,17 +40,11 @@ abbrev pub called_back : Context → Running → List Waiting → Said → Part
 called_back c r is s =
     if is_done r.control then handed is (closed_with (running_group c.job r) s) else record { owner = Some (staged c (Begun r)); waiting = is; said = s }
 
-abbrev pub silent_talk : Names → Talk
-silent_talk names = record { names = names; lines = []; ops = [] }
-
-abbrev pub no_answers : ℕ → Option Answer
-no_answers slot = None
-
 abbrev pub begins : Program → Job → Turn
 begins p j = begin j.facts (Rest (text_for p j.handler) ∷ []) [] (silent_talk (λ i. pos 0))
 
 abbrev pub start_stage : Program → Context → Stage → Part → Part
-start_stage p c Unbegun part = called_back c (left_by (begins p c.job) no_answers [] 0) part.waiting (timed (begins p c.job) part.said)
+start_stage p c Unbegun part = called_back c (left_by (begins p c.job) unanswered [] 0) part.waiting (timed (begins p c.job) part.said)
 start_stage p c (Begun r) part = part
 
 -- the owner begins
