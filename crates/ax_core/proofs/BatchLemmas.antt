@@ -1,5 +1,5 @@
 -- Requests that go out: the front of a queue is out, and nothing else changes.
-use Rattle.std.proofs.Common.{◌≡◌, ◌≢◌, ◌⊎◌, ℕ, zero, suc, ◌+◌, ◌≤◌, ◌<◌, Bool, true, false, List, [], ◌∷◌, ◌++◌, length, get_or, set, take, drop, refl, sym, ap, ◌∙◌, subst, inl, inr, Option, Some, None, Contains, length-set, arith}
+use Rattle.std.proofs.Common.{◌≡◌, ◌⊎◌, ℕ, zero, suc, ◌+◌, ◌≤◌, ◌<◌, Bool, true, false, List, [], ◌∷◌, ◌++◌, length, get_or, set, take, drop, refl, sym, ap, ◌∙◌, subst, inl, inr, Option, Some, None, Contains, length-set, arith}
 use Rattle.std.proofs.lemmas.List.{take-append-drop}
 use Rattle.std.proofs.lemmas.List.Elements.{Contains-append_left, Contains-append_right, Contains-append_cases}
 use Rattle.ax_text.specs.Controls.{Control, request_at}
@@ -12,7 +12,6 @@ use Rattle.ax_context.specs.declared.id.Id.{Id}
 use Rattle.ax_context.specs.declared.contexts.Context.{Context as Held}
 use Rattle.ax_context.specs.Slots.{at}
 use Rattle.ax_account.specs.Accounts.{owner_of, part_of}
-use Rattle.ax_execution.specs.Contexts.{Stage, Context}
 use Rattle.ax_execution.specs.MachineControls.{MachineControl}
 use Rattle.ax_core.specs.declared.record.Record.{Record}
 use Rattle.ax_core.specs.declared.record.Name.{Name}
@@ -20,11 +19,11 @@ use Rattle.ax_core.specs.declared.controller.Controller.{Controller}
 use Rattle.ax_core.specs.Contexts.{waits_in, waits_at}
 use Rattle.ax_core.specs.Flow.{shard_of, one_if, queued_as, named_as, answered_as, in_queues, in_outs, waits_for, OwnsBegun, OwnsOnceBegun, IsAsked, QueuedStands, OutStands, out_of, IsFlow, on_the_way}
 use Rattle.ax_core.specs.Stands.{Stands}
-use Rattle.ax_core.specs.Sound.{HasRooms, StandsFor, IsSound}
+use Rattle.ax_core.specs.Sound.{StandsFor, IsSound}
 use Rattle.ax_core.specs.Events.{SameRules, StageAsksIt, OwnerAsks, Asks, AsksAll, names_in, AreOut}
 use Rattle.ax_core.proofs.Counting.{named_names, queues_taken, outs_named, outs_longer, of_names, length_names}
 use Rattle.ax_core.proofs.Waits.{waits_here}
-use Rattle.ax_core.proofs.Owners.{RunsAt, runs_at, unanswered, queued_there}
+use Rattle.ax_core.proofs.Owners.{runs_at, unanswered, queued_there}
 
 -- a list is longer than a number, or there is nothing at it
 inside_or : {X : Type 0} (s : ℕ) (xs : List (List X)) → (s < length xs) ⊎ (get_or xs s [] ≡ [])

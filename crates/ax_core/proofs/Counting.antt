@@ -1,6 +1,6 @@
 -- How often a request stands in queues, among what is out, and among mails.
-use Rattle.std.proofs.Common.{◌≡◌, ◌≢◌, ◌⊎◌, ℕ, zero, suc, ◌+◌, ◌≤◌, ◌<◌, List, [], ◌∷◌, ◌++◌, map, length, get_or, set, take, drop, refl, sym, ap, ◌∙◌, subst, inl, inr, Contains, length-append, arith}
-use Rattle.std.proofs.lemmas.List.{take-append-drop, map-append}
+use Rattle.std.proofs.Common.{◌≡◌, ℕ, zero, suc, ◌+◌, ◌<◌, List, [], ◌∷◌, ◌++◌, length, get_or, set, take, drop, refl, ap, subst, Contains, length-append, arith}
+use Rattle.std.proofs.lemmas.List.{take-append-drop}
 use Rattle.ax_buffer.specs.declared.items.Item.{Item}
 use Rattle.ax_buffer.specs.declared.items.Reply.{Reply}
 use Rattle.ax_buffer.specs.Buffer.{total}
@@ -8,7 +8,7 @@ use Rattle.ax_buffer.proofs.ListLemmas.{total-set}
 use Rattle.ax_context.specs.declared.id.Id.{Id}
 use Rattle.ax_mailbox.specs.declared.mail.Mail.{Mail}
 use Rattle.ax_core.specs.declared.record.Name.{Name}
-use Rattle.ax_core.specs.Flow.{one_if, names_request, queued_as, named_as, answers_as, answered_as, starts_as, started_as}
+use Rattle.ax_core.specs.Flow.{one_if, names_request, queued_as, named_as, answered_as, started_as}
 use Rattle.ax_core.specs.Batches.{mails_in}
 use Rattle.ax_core.specs.Events.{names_in, names_of}
 

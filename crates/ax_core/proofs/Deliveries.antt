@@ -1,7 +1,6 @@
 -- Replies that become mails, as events of the machine.
-use Rattle.std.proofs.Common.{◌≡◌, ℕ, zero, suc, ◌+◌, ◌*◌, ◌≤◌, ◌<◌, Bool, true, not, List, [], ◌∷◌, ◌++◌, length, refl, sym, ap, ◌∙◌, subst, Option, Some, None, add-mul, mul-le-mul_right, length-append, arith}
+use Rattle.std.proofs.Common.{◌≡◌, ℕ, ◌+◌, ◌*◌, ◌≤◌, not, List, [], ◌∷◌, ◌++◌, length, refl, sym, ap, ◌∙◌, subst, Option, Some, None, add-mul, mul-le-mul_right, length-append, arith}
 use Rattle.ax_text.specs.Programs.{Program as AnyProgram, program_width}
-use Rattle.ax_text.specs.Controls.{slots, Control}
 use Rattle.ax_text.specs.Widths.{ControlWide}
 use Rattle.ax_text.proofs.Wide.{slots_wide}
 use Rattle.ax_lang.specs.declared.program.Program.{Program}
@@ -18,25 +17,22 @@ use Rattle.ax_mailbox.specs.declared.mail.Mail.{Mail}
 use Rattle.ax_execution.specs.Sums.{total as key_total}
 use Rattle.ax_execution.specs.Contexts.{Stage, Unbegun, Begun, Context, owners, rows_in}
 use Rattle.ax_execution.specs.Counts.{references}
-use Rattle.ax_execution.specs.KeyControls.{KeyControl}
-use Rattle.ax_execution.specs.ControlTurns.{is_idle_on, contexts_on}
+use Rattle.ax_execution.specs.ControlTurns.{contexts_on}
 use Rattle.ax_execution.specs.Machine.{Rules, Closed}
 use Rattle.ax_execution.specs.Tests.{no_barrier}
 use Rattle.ax_execution.specs.MachineControls.{MachineControl, in_flight_on, at_origin}
 use Rattle.ax_execution.specs.ControlsAllowed.{Answered, IsRunOn, after_all_on}
 use Rattle.ax_execution.specs.Reached.{IsReached, owed_to, owed_in}
-use Rattle.ax_time.specs.declared.epoch.Marker.{Marker}
 use Rattle.ax_time.specs.Epochs.{markers_of}
 use Rattle.ax_core.specs.declared.record.Record.{Record}
-use Rattle.ax_core.specs.declared.record.Name.{Name}
 use Rattle.ax_core.specs.declared.controller.Controller.{Controller}
-use Rattle.ax_core.specs.Contexts.{StageStands, IsContext, ContextStands, wrapped}
-use Rattle.ax_core.specs.Keys.{OwnerStands, PartStands}
-use Rattle.ax_core.specs.Flow.{one_if, named_as, answered_as, started_as, in_queues, in_outs, is_to_start, waits_for, IsFlow, on_the_way}
+use Rattle.ax_core.specs.Contexts.{StageStands, ContextStands, wrapped}
+use Rattle.ax_core.specs.Keys.{OwnerStands}
+use Rattle.ax_core.specs.Flow.{one_if, named_as, answered_as, started_as, in_queues, in_outs, waits_for, IsFlow}
 use Rattle.ax_core.specs.Contexts.{waits_at}
 use Rattle.ax_core.specs.Epochs.{MarkersStand, EpochsStand}
 use Rattle.ax_core.specs.Stands.{Stands}
-use Rattle.ax_core.specs.Sound.{HasRooms, rules_of, StandsFor, IsSound}
+use Rattle.ax_core.specs.Sound.{rules_of, StandsFor, IsSound}
 use Rattle.ax_core.specs.Batches.{mails_in, Forgets}
 use Rattle.ax_core.specs.Events.{SameRules, names_of, serves, ServesAll}
 use Rattle.ax_core.proofs.Counting.{answered_append, started_append, answered_mails, started_mails, length_mails}

@@ -1,6 +1,5 @@
 -- The owner of a key that has begun, as a context of the machine.
-use Rattle.std.proofs.Common.{◌≡◌, ℕ, zero, suc, ◌+◌, ◌≤◌, ◌<◌, List, [], ◌∷◌, length, get_or, refl, sym, ap, ◌∙◌, subst, Bool, true, false, nat_eq, ◌&&◌, cond, Option, Some, None, Contains, eq-eqb, arith}
-use Rattle.ax_text.specs.declared.vocabulary.Answer.{Answer}
+use Rattle.std.proofs.Common.{◌≡◌, ℕ, zero, suc, ◌≤◌, ◌<◌, List, [], ◌∷◌, length, get_or, refl, sym, ap, subst, Bool, true, false, Option, Some, None, Contains, eq-eqb, arith}
 use Rattle.ax_lang.specs.declared.program.Program.{Program}
 use Rattle.ax_future.specs.declared.machine.Machine.{Machine as CodeMachine}
 use Rattle.ax_machine.specs.Entries.{Key}
@@ -12,9 +11,9 @@ use Rattle.ax_mailbox.specs.declared.mail.Mail.{Mail}
 use Rattle.ax_mailbox.specs.declared.mail.Mail.TheVariants as mail
 use Rattle.ax_execution.specs.Contexts.{Running, Stage, Unbegun, Begun, Context}
 use Rattle.ax_core.specs.declared.record.Record.{Record}
-use Rattle.ax_core.specs.Contexts.{same_id, answer_if, answer_in, IsRunning, StageStands, IsContext, ContextStands}
+use Rattle.ax_core.specs.Contexts.{answer_if, answer_in, IsRunning, StageStands, IsContext, ContextStands}
 use Rattle.ax_core.specs.Keys.{OwnerStands}
-use Rattle.ax_core.specs.Flow.{one_if, names_request, queued_as, answers_as, answered_as}
+use Rattle.ax_core.specs.Flow.{one_if, names_request, queued_as, answered_as}
 
 pub none_some : {X : Type 0} {x : X} → None ≡ Some x → ⊥
 none_some e = cc

@@ -1,5 +1,5 @@
 -- Replies that become mails: each serves the request that it names.
-use Rattle.std.proofs.Common.{◌≡◌, ◌≢◌, ◌⊎◌, ℕ, zero, suc, ◌+◌, ◌*◌, ◌≤◌, ◌<◌, ℤ, Bool, true, false, nat_eq, ◌&&◌, List, [], ◌∷◌, ◌++◌, append_assoc, append-nil, map, length, refl, sym, ap, ◌∙◌, subst, inl, inr, Option, Some, None, is_none, Contains, eq-eqb, eqb-true, arith}
+use Rattle.std.proofs.Common.{◌≡◌, ◌⊎◌, ℕ, ◌+◌, ◌≤◌, Bool, true, false, nat_eq, ◌&&◌, List, [], ◌∷◌, ◌++◌, append_assoc, append-nil, refl, sym, ap, ◌∙◌, subst, inl, inr, Option, Some, None, eqb-true, arith}
 use Rattle.std.specs.Str.{bytes_eq}
 use Rattle.std.proofs.lemmas.Bool.{cond-true, cond-false}
 use Rattle.ax_text.specs.declared.vocabulary.Request.{Request}
@@ -8,7 +8,7 @@ use Rattle.ax_text.specs.Prints.{has}
 use Rattle.ax_text.specs.Exprs.{Facts}
 use Rattle.ax_text.specs.Programs.{Program as AnyProgram}
 use Rattle.ax_text.specs.Functions.{upd}
-use Rattle.ax_text.specs.Controls.{Control, Done, Wait, Arms, Ask', slots, waiting, request_at}
+use Rattle.ax_text.specs.Controls.{Control, Done, Wait, Arms, slots, request_at}
 use Rattle.ax_text.proofs.Asked.{slots_waiting}
 use Rattle.ax_text.proofs.Steps.{mem_either}
 use Rattle.ax_lang.specs.declared.program.Program.{Program}
@@ -23,7 +23,6 @@ use Rattle.ax_context.specs.declared.contexts.Context.{Context as Held}
 use Rattle.ax_context.specs.Slots.{Slots, at}
 use Rattle.ax_account.specs.declared.part.Waiting.{Waiting as Item}
 use Rattle.ax_account.specs.declared.part.Waiting.TheVariants as item
-use Rattle.ax_account.specs.Parts.{Part}
 use Rattle.ax_account.specs.Accounts.{owner_of, part_of}
 use Rattle.ax_mailbox.specs.declared.mail.Mail.{Mail}
 use Rattle.ax_mailbox.specs.declared.mail.Mail.TheVariants as mail
@@ -37,19 +36,17 @@ use Rattle.ax_execution.specs.ControlTurns.{is_idle_on, contexts_on}
 use Rattle.ax_execution.specs.Allowed.{StageAsks, OfOwner}
 use Rattle.ax_execution.specs.Machine.{Rules, Serve}
 use Rattle.ax_execution.specs.MachineControls.{MachineControl, control_at, happens_on, in_flight_on, control_of_epoch, epoch_count_on}
-use Rattle.ax_execution.specs.ControlsAllowed.{AllowedOn, Answered, IsRunOn, after_all_on}
+use Rattle.ax_execution.specs.ControlsAllowed.{AllowedOn, IsRunOn, after_all_on}
 use Rattle.ax_execution.specs.Reached.{owed_to, owed_in}
 use Rattle.ax_core.specs.declared.record.Record.{Record}
-use Rattle.ax_core.specs.declared.record.Name.{Name}
 use Rattle.ax_core.specs.declared.controller.Controller.{Controller}
-use Rattle.ax_core.specs.Contexts.{same_id, answer_if, answer_in, IsRunning, StageStands, IsJob, IsContext, ContextStands, waits_in, waits_at}
-use Rattle.ax_core.specs.Keys.{OwnerStands, ItemStands, ItemsStand, PartStands, KeyStands}
-use Rattle.ax_core.specs.Flow.{one_if, names_request, named_as, answers_as, answered_as, waits_for, OwnsBegun, OwnsOnceBegun, IsFlow}
+use Rattle.ax_core.specs.Contexts.{same_id, answer_if, answer_in, IsRunning, StageStands, IsContext, ContextStands, waits_in, waits_at}
+use Rattle.ax_core.specs.Keys.{OwnerStands, ItemsStand, PartStands}
+use Rattle.ax_core.specs.Flow.{one_if, names_request, named_as, answered_as, waits_for, OwnsBegun, OwnsOnceBegun, IsFlow}
 use Rattle.ax_core.specs.Batches.{mails_in}
 use Rattle.ax_core.specs.Events.{key_in, names_of, serves}
-use Rattle.ax_core.specs.Sound.{rules_of}
 use Rattle.ax_core.proofs.Counting.{answered_append}
-use Rattle.ax_core.proofs.Owners.{RunsAt, runs_at, none_some, unanswered, names_itself}
+use Rattle.ax_core.proofs.Owners.{RunsAt, runs_at, unanswered, names_itself}
 
 pub by_cases : {A : Type 0} (b : Bool) → (b ≡ true → A) → (b ≡ false → A) → A
 by_cases true p q = p refl

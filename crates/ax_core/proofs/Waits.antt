@@ -1,6 +1,6 @@
 -- A request that waits, as its slot and as what the control has there.
-use Rattle.std.proofs.Common.{◌≡◌, ◌⊎◌, ℕ, zero, suc, ◌+◌, ◌≤◌, ◌<◌, nat_eq, List, [], ◌∷◌, ◌++◌, map, length, get_or, refl, sym, ap, ◌∙◌, subst, inl, inr, Bool, true, false, ◌||◌, cond, Option, Some, None, Contains, eq-eqb, arith}
-use Rattle.std.proofs.lemmas.Bool.{cases_Bool, cond-true, cond-false}
+use Rattle.std.proofs.Common.{◌≡◌, ℕ, zero, suc, ◌<◌, [], ◌∷◌, get_or, refl, sym, ap, ◌∙◌, inl, inr, Bool, true, false, ◌||◌, Some, Contains, eq-eqb, arith}
+use Rattle.std.proofs.lemmas.Bool.{cond-true, cond-false}
 use Rattle.std.proofs.lemmas.List.Elements.{Contains-append_cases}
 use Rattle.ax_text.specs.declared.vocabulary.Request.{Request}
 use Rattle.ax_text.specs.Prints.{has}

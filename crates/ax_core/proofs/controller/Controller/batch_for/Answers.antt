@@ -1,4 +1,4 @@
-use Rattle.std.proofs.Common.{◌≡◌, ◌+◌, ◌<◌, ◌++◌, ℕ, List, [], length, take, get_or, set, refl, sym, ap, subst, arith}
+use Rattle.std.proofs.Common.{◌≡◌, ◌+◌, ◌<◌, ◌++◌, List, length, take, set, refl, sym, ap, subst, arith}
 use Rattle.std.specs.Vec.{with_item}
 use Rattle.ax_buffer.specs.declared.items.Item.{Item}
 use Rattle.ax_buffer.specs.Buffer.{queue_of, total}
