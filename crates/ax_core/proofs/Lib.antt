@@ -1,3 +1,8 @@
+pub mod Frames
+pub mod Admits
+pub mod Open
+pub mod Flows
+pub mod Begins
 pub mod Counting
 pub mod Waits
 pub mod Owners
