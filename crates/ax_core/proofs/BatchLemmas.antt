@@ -54,7 +54,6 @@ module _ (a b : Controller) (s max : ℕ) (inside : s < a.settings.shards)
     (count : total length b.buffer.queues + length (take max (queue_of a.buffer s)) ≡ total length a.buffer.queues)
     (room : b.buffer.room ≡ a.buffer.room)
     (outs : b.outs.items ≡ set a.outs.items s (out_of a s ++ names_in (take max (queue_of a.buffer s)))) where
-
   -- the controller behind it
   c : Controller
   c = record a { buffer = b.buffer; outs = b.outs }
@@ -88,7 +87,7 @@ module _ (a b : Controller) (s max : ℕ) (inside : s < a.settings.shards)
     | inl x ↦
         let now : get_or b.buffer.queues t [] ≡ drop max q = ap (λ (qs : List (List Item)). get_or qs t []) queues ∙ x.1 in
         subst (λ (u : ℕ). Contains (queue_of a.buffer u) i) (sym x.0)
-          (subst (λ (is : List Item). Contains is i) (take-append-drop max q) (Contains-append_right (take max q) (drop max q) i (subst (λ (is : List Item). Contains is i) now h)))
+        (subst (λ (is : List Item). Contains is i) (take-append-drop max q) (Contains-append_right (take max q) (drop max q) i (subst (λ (is : List Item). Contains is i) now h)))
     | inr x ↦ subst (λ (is : List Item). Contains is i) (ap (λ (qs : List (List Item)). get_or qs t []) queues ∙ x.1) h
   ]
 
@@ -102,10 +101,10 @@ module _ (a b : Controller) (s max : ℕ) (inside : s < a.settings.shards)
     | inl x ↦
         let now : get_or b.outs.items t [] ≡ out_of a s ++ names_in batch = ap (λ (os : List (List Name)). get_or os t []) outs ∙ x.1 in
         subst (λ (u : ℕ). OutStands a u (at a.contexts n.id)) (sym x.0)
-          (elim (Contains-append_cases (out_of a s) (names_in batch) n (subst (λ (ns : List Name). Contains ns n) now h)) [
-            | inl old ↦ flow.out s n old
-            | inr new ↦ of_names (λ (m : Name). OutStands a s (at a.contexts m.id)) batch (λ i d. queued_is_out i (at a.contexts i.id) (flow.queued s i (in_front i d))) n new
-          ])
+        (elim (Contains-append_cases (out_of a s) (names_in batch) n (subst (λ (ns : List Name). Contains ns n) now h)) [
+          | inl old ↦ flow.out s n old
+          | inr new ↦ of_names (λ (m : Name). OutStands a s (at a.contexts m.id)) batch (λ i d. queued_is_out i (at a.contexts i.id) (flow.queued s i (in_front i d))) n new
+        ])
     | inr x ↦ flow.out t n (subst (λ (ns : List Name). Contains ns n) (ap (λ (os : List (List Name)). get_or os t []) outs ∙ x.1) h)
   ]
 

@@ -98,10 +98,10 @@ module _ (a b : Controller) (rs : List Reply) (shard : ℕ) (before behind : Lis
     | inl x ↦
         let now : get_or b.outs.items t [] ≡ before ++ behind = ap (λ (os : List (List Name)). get_or os t []) outs ∙ x.1 in
         subst (λ (u : ℕ). Contains (out_of a u) n) (sym x.0) (subst (λ (ns : List Name). Contains ns n) (sym is)
-          (elim (Contains-append_cases before behind n (subst (λ (ns : List Name). Contains ns n) now h)) [
-            | inl y ↦ Contains-append_left before (names_of rs ++ behind) n y
-            | inr y ↦ Contains-append_right before (names_of rs ++ behind) n (Contains-append_right (names_of rs) behind n y)
-          ]))
+        (elim (Contains-append_cases before behind n (subst (λ (ns : List Name). Contains ns n) now h)) [
+          | inl y ↦ Contains-append_left before (names_of rs ++ behind) n y
+          | inr y ↦ Contains-append_right before (names_of rs ++ behind) n (Contains-append_right (names_of rs) behind n y)
+        ]))
     | inr x ↦ subst (λ (ns : List Name). Contains ns n) (ap (λ (os : List (List Name)). get_or os t []) outs ∙ x.1) h
   ]
 

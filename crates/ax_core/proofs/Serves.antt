@@ -1,4 +1,4 @@
--- Replies that become mails: each serves the request that it names.
+-- Replies that become mails: each serves what it names.
 use Rattle.std.proofs.Common.{◌≡◌, ◌⊎◌, ℕ, ◌+◌, ◌≤◌, Bool, true, false, nat_eq, ◌&&◌, List, [], ◌∷◌, ◌++◌, append_assoc, append-nil, refl, sym, ap, ◌∙◌, subst, inl, inr, Option, Some, None, eqb-true, arith}
 use Rattle.std.specs.Str.{bytes_eq}
 use Rattle.std.proofs.lemmas.Bool.{cond-true, cond-false}
@@ -127,8 +127,8 @@ sum_kept : (f : KeyControl → ℕ) (controls : Key → KeyControl) (key : Key) 
 sum_kept f controls key c e [] = refl
 sum_kept f controls key c e (k ∷ ks) =
     let here : f (control_at controls key c k) ≡ f (controls k) = by_cases (bytes_eq key k)
-          (λ x. ap f (cond-true (bytes_eq key k) c (controls k) x) ∙ (e ∙ ap (λ (j : Key). f (controls j)) (key_is key k x)))
-          (λ x. ap f (cond-false (bytes_eq key k) c (controls k) x)) in
+    (λ x. ap f (cond-true (bytes_eq key k) c (controls k) x) ∙ (e ∙ ap (λ (j : Key). f (controls j)) (key_is key k x)))
+    (λ x. ap f (cond-false (bytes_eq key k) c (controls k) x)) in
     omega (arith, sum_kept f controls key c e ks)
 
 module _ (slot : ℕ) (a : Answer) where
@@ -201,11 +201,11 @@ module _ (a : Controller) (mails : List Mail) (m : MachineControl) (id : Id) (sl
   answers_after : (t : ℕ) → answer_in (mails ++ mail.Reply id slot answer ∷ []) id t ≡ upd runs.running.answers slot (Some answer) t
   answers_after t = by_cases (nat_eq slot t)
       (λ x.
-        let same : slot ≡ t = eqb-true slot t x in
-        let named : names_request id t id slot ≡ true = subst (λ (u : ℕ). names_request id u id slot ≡ true) same (names_itself id slot) in
-        answer_last id slot answer mails id t named (subst (λ (u : ℕ). answered_as id u mails ≡ 0) same fresh) ∙ sym (cond-true (nat_eq slot t) (Some answer) (runs.running.answers t) x))
+      let same : slot ≡ t = eqb-true slot t x in
+      let named : names_request id t id slot ≡ true = subst (λ (u : ℕ). names_request id u id slot ≡ true) same (names_itself id slot) in
+      answer_last id slot answer mails id t named (subst (λ (u : ℕ). answered_as id u mails ≡ 0) same fresh) ∙ sym (cond-true (nat_eq slot t) (Some answer) (runs.running.answers t) x))
       (λ x.
-        answer_other id slot answer mails id t (of (same_id id id) x) ∙ (runs.runs.answers t ∙ sym (cond-false (nat_eq slot t) (Some answer) (runs.running.answers t) x)))
+      answer_other id slot answer mails id t (of (same_id id id) x) ∙ (runs.runs.answers t ∙ sym (cond-false (nat_eq slot t) (Some answer) (runs.running.answers t) x)))
     where
       of : (b : Bool) → nat_eq slot t ≡ false → (b && nat_eq slot t) ≡ false
       of true x = x
@@ -238,10 +238,10 @@ module _ (a : Controller) (mails : List Mail) (m : MachineControl) (id : Id) (sl
   other_slot : (k : Key) → (key ≡ k → ⊥) → (j : Id) (h : Held Record) → at a.contexts j ≡ Some h → h.payload.facts.key ≡ k → (t : ℕ) → names_request j t id slot ≡ false
   other_slot k differs j h e f t = by_cases (same_id id j)
       (λ x.
-        let same : at a.contexts id ≡ at a.contexts j = ap (at a.contexts) (id_is id j x) in
-        let both : Some w.held ≡ Some h = sym w.there ∙ (same ∙ e) in
-        let held : w.held ≡ h = cc in
-        absurd (differs (sym is_key ∙ (ap (λ (h : Held Record). h.payload.facts.key) held ∙ f))))
+      let same : at a.contexts id ≡ at a.contexts j = ap (at a.contexts) (id_is id j x) in
+      let both : Some w.held ≡ Some h = sym w.there ∙ (same ∙ e) in
+      let held : w.held ≡ h = cc in
+      absurd (differs (sym is_key ∙ (ap (λ (h : Held Record). h.payload.facts.key) held ∙ f))))
       (λ x. ap (λ (b : Bool). b && nat_eq slot t) x)
 
   owner_beside : (k : Key) → (key ≡ k → ⊥) → (o : Option Id) (c : Option Context) → OwnerStands a.program mails a.contexts k o c → OwnerStands a.program (mails ++ mail.Reply id slot answer ∷ []) a.contexts k o c
@@ -257,16 +257,16 @@ module _ (a : Controller) (mails : List Mail) (m : MachineControl) (id : Id) (sl
   pub keys_after : (p : AnyProgram) → Keys a (mails ++ mail.Reply id slot answer ∷ []) (happens_on p (Serve key slot) (Some answer) m)
   keys_after p k = by_cases (bytes_eq key k)
       (λ x. subst (λ (j : Key). PartStands a.program (mails ++ mail.Reply id slot answer ∷ []) a.contexts j (part_of a.accounts j) (times_of a.timers j) (control_at m.controls key (keeps_answer slot (Some answer) (m.controls key)) j)) (key_is key k x)
-        (subst (λ (c : KeyControl). PartStands a.program (mails ++ mail.Reply id slot answer ∷ []) a.contexts key (part_of a.accounts key) (times_of a.timers key) c)
-          (sym (cond-true (bytes_eq key key) (keeps_answer slot (Some answer) (m.controls key)) (m.controls key) (same_key key)))
-          (record { owner = owner_after; items = items_stay a.program mails (mails ++ mail.Reply id slot answer ∷ []) a.contexts key (part_of a.accounts key).waiting (m.controls key).waiting (keys key).items; times = (keys key).times })))
+      (subst (λ (c : KeyControl). PartStands a.program (mails ++ mail.Reply id slot answer ∷ []) a.contexts key (part_of a.accounts key) (times_of a.timers key) c)
+      (sym (cond-true (bytes_eq key key) (keeps_answer slot (Some answer) (m.controls key)) (m.controls key) (same_key key)))
+      (record { owner = owner_after; items = items_stay a.program mails (mails ++ mail.Reply id slot answer ∷ []) a.contexts key (part_of a.accounts key).waiting (m.controls key).waiting (keys key).items; times = (keys key).times })))
       (λ x. subst (λ (c : KeyControl). PartStands a.program (mails ++ mail.Reply id slot answer ∷ []) a.contexts k (part_of a.accounts k) (times_of a.timers k) c)
-        (sym (cond-false (bytes_eq key k) (keeps_answer slot (Some answer) (m.controls key)) (m.controls k) x))
-        (record {
-          owner = owner_beside k (λ e. true_false (sym (same_key key) ∙ (ap (bytes_eq key) e ∙ x))) (part_of a.accounts k).owner (m.controls k).owner (keys k).owner;
-          items = items_stay a.program mails (mails ++ mail.Reply id slot answer ∷ []) a.contexts k (part_of a.accounts k).waiting (m.controls k).waiting (keys k).items;
-          times = (keys k).times;
-        }))
+      (sym (cond-false (bytes_eq key k) (keeps_answer slot (Some answer) (m.controls key)) (m.controls k) x))
+      (record {
+        owner = owner_beside k (λ e. true_false (sym (same_key key) ∙ (ap (bytes_eq key) e ∙ x))) (part_of a.accounts k).owner (m.controls k).owner (keys k).owner;
+        items = items_stay a.program mails (mails ++ mail.Reply id slot answer ∷ []) a.contexts k (part_of a.accounts k).waiting (m.controls k).waiting (keys k).items;
+        times = (keys k).times;
+      }))
 
 -- what a serve leaves of a control
 module _ (p : AnyProgram) (m : MachineControl) (key : Key) (slot : ℕ) (answer : Answer) where
@@ -335,9 +335,9 @@ module _ (a : Controller) (flow : IsFlow a) (rules : Rules) where
       let next : MachineControl = happens_on (shown_program a.program) (Serve key r.slot) (Some r.answer) m in
       let x : Mail = mail.Reply r.id r.slot r.answer in
       let rest : Served a rules (mails ++ x ∷ []) rs next = serve_all (mails ++ x ∷ []) rs next
-            (keys_after a mails m r.id r.slot r.answer w key is_key keys fresh settled (shown_program a.program))
-            (λ id slot. omega (arith, may id slot, answered_append id slot mails (x ∷ [])))
-            settled in
+      (keys_after a mails m r.id r.slot r.answer w key is_key keys fresh settled (shown_program a.program))
+      (λ id slot. omega (arith, may id slot, answered_append id slot mails (x ∷ [])))
+      settled in
       record {
         run = (serve_allowed a mails m r.id r.slot r.answer w key is_key keys fresh settled rules, (r.answer, refl), rest.run);
         keys = subst (λ (ms : List Mail). Keys a ms (after_all_on (shown_program a.program) (serves a rs) next)) (append_assoc mails (x ∷ []) (mails_in rs)) rest.keys;

@@ -16,7 +16,7 @@ returns-clause-sound c =
     let same : c.in_ok-batch.batch ≡ take c.args.max (queue_of a.buffer c.args.shard) = c.in_ok-batch.ensures.batch in
     let count : total length b.buffer.queues + length (take c.args.max (queue_of a.buffer c.args.shard)) ≡ total length a.buffer.queues = omega (arith, c.in_ok-batch.ensures.len, ap length same) in
     let outs : set a.outs.items c.args.shard c.put_names.new.out ≡ set a.outs.items c.args.shard (out_of a c.args.shard ++ names_in (take c.args.max (queue_of a.buffer c.args.shard))) =
-          outs_put a.outs.items c.args.shard c.index_mut.result.now c.put_names.new.out c.in_ok-batch.batch (take c.args.max (queue_of a.buffer c.args.shard)) there.1 c.index_mut.ensures.value c.in_ok-put_names.ensures same in
+    outs_put a.outs.items c.args.shard c.index_mut.result.now c.put_names.new.out c.in_ok-batch.batch (take c.args.max (queue_of a.buffer c.args.shard)) there.1 c.index_mut.ensures.value c.in_ok-put_names.ensures same in
     sound_out a b c.args.shard c.args.max c.requires.shard c.in_ok-batch.ensures.queues count c.take_batch.ensures.room outs refl c.requires.sound
 
 pub returns-clause-stands : goal.returns-clause-stands
@@ -27,7 +27,7 @@ returns-clause-stands c =
     let same : c.in_ok-batch.batch ≡ take c.args.max (queue_of a.buffer c.args.shard) = c.in_ok-batch.ensures.batch in
     let count : total length b.buffer.queues + length (take c.args.max (queue_of a.buffer c.args.shard)) ≡ total length a.buffer.queues = omega (arith, c.in_ok-batch.ensures.len, ap length same) in
     let outs : set a.outs.items c.args.shard c.put_names.new.out ≡ set a.outs.items c.args.shard (out_of a c.args.shard ++ names_in (take c.args.max (queue_of a.buffer c.args.shard))) =
-          outs_put a.outs.items c.args.shard c.index_mut.result.now c.put_names.new.out c.in_ok-batch.batch (take c.args.max (queue_of a.buffer c.args.shard)) there.1 c.index_mut.ensures.value c.in_ok-put_names.ensures same in
+    outs_put a.outs.items c.args.shard c.index_mut.result.now c.put_names.new.out c.in_ok-batch.batch (take c.args.max (queue_of a.buffer c.args.shard)) there.1 c.index_mut.ensures.value c.in_ok-put_names.ensures same in
     λ m x. stands_out a b c.args.shard c.args.max c.requires.shard c.in_ok-batch.ensures.queues count c.take_batch.ensures.room outs refl c.requires.sound m x
 
 pub returns-clause-asks : goal.returns-clause-asks

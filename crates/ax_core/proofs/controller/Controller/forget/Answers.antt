@@ -40,7 +40,7 @@ returns c =
     let held : c.index_mut.result.now ≡ out_of a c.requires.out.shard = c.index_mut.ensures.value ∙ (same_at a.outs.items c.shard_of-shard.result c.index_mut.result.now [] low ∙ ap (out_of a) there) in
     let found : IsPlaceOf (out_of a c.requires.out.shard) (name_of x) c.place_of-place.result = subst (λ (ns : List Name). IsPlaceOf ns (name_of x) c.place_of-place.result) seen c.place_of-place.ensures in
     let left : c.take_out.new.out ≡ remove_range (out_of a c.requires.out.shard) c.place_of-place.result (c.place_of-place.result + length c.args.r.now) = c.take_out.ensures
-          ∙ (ap (λ (ns : List Name). remove_range ns c.place_of-place.result (c.place_of-place.result + c.len.result)) held
-          ∙ ap (λ (n : ℕ). remove_range (out_of a c.requires.out.shard) c.place_of-place.result (c.place_of-place.result + n)) c.len.ensures) in
+    ∙ (ap (λ (ns : List Name). remove_range ns c.place_of-place.result (c.place_of-place.result + c.len.result)) held
+    ∙ ap (λ (n : ℕ). remove_range (out_of a c.requires.out.shard) c.place_of-place.result (c.place_of-place.result + n)) c.len.ensures) in
     let b : Controller = record c.args.self.now { outs = with_item c.args.self.now.outs c.shard_of-shard.result c.take_out.new.out } in
     forgotten a c.requires.sound.flow c.args.r.now c.requires.out x (drop 1 c.args.r.now) e (out_of a c.requires.out.shard) c.place_of-place.result refl found b c.shard_of-shard.result c.take_out.new.out refl there left refl
