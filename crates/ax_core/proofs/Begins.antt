@@ -106,11 +106,11 @@ module _ (a : Controller) (new : IsNew a) (ranges : InRange a.settings) where
   flow : IsFlow a
   flow = record {
     once = λ id slot.
-      let x : in_queues a id slot ≡ 0 = ap (λ (qs : List (List Item)). total (queued_as id slot) qs) new.queues ∙ none_in (queued_as id slot) a.settings.shards refl in
-      let y : in_outs a id slot ≡ 0 = ap (λ (qs : List (List Name)). total (named_as id slot) qs) new.outs ∙ none_in (named_as id slot) a.settings.shards refl in
-      let z : answered_as id slot a.mails.mails ≡ 0 = ap (λ (q : Queue). answered_as id slot q.mails) new.mails in
-      let w : one_if (waits_for (waits_at a.program (at a.contexts id)) slot) ≡ 0 = ap (λ (o : Option (Held Record)). one_if (waits_for (waits_at a.program o) slot)) (no_context id) in
-      omega arith;
+        let x : in_queues a id slot ≡ 0 = ap (λ (qs : List (List Item)). total (queued_as id slot) qs) new.queues ∙ none_in (queued_as id slot) a.settings.shards refl in
+        let y : in_outs a id slot ≡ 0 = ap (λ (qs : List (List Name)). total (named_as id slot) qs) new.outs ∙ none_in (named_as id slot) a.settings.shards refl in
+        let z : answered_as id slot a.mails.mails ≡ 0 = ap (λ (q : Queue). answered_as id slot q.mails) new.mails in
+        let w : one_if (waits_for (waits_at a.program (at a.contexts id)) slot) ≡ 0 = ap (λ (o : Option (Held Record)). one_if (waits_for (waits_at a.program o) slot)) (no_context id) in
+        omega arith;
     starts = λ id. ap (λ (q : Queue). started_as id q.mails) new.mails ∙ sym (ap (λ (o : Option (Held Record)). one_if (is_to_start a id o)) (no_context id));
     begun = λ id. subst (λ (o : Option (Held Record)). OwnsOnceBegun a id o) (sym (no_context id)) tt;
     queued = λ shard i h. let e : length (queue_of a.buffer shard) ≡ 0 = ap (λ (q : List Item). length q) (no_queue shard) in let l : h.0 < length (queue_of a.buffer shard) = h.1 in absurd (omega arith);

@@ -101,8 +101,7 @@ so_or false e h = refl
 module _ (a : Controller) (m : MachineControl) (h : EpochsStand a.epochs a.barrier m) where
   pub is_open : may_close a ≡ true → IsOpenOn (rules_of a.settings) m
   is_open may =
-      let both : (not a.barrier ≡ true) × ((not a.settings.serial || is_empty a.epochs.closed) ≡ true) = and_parts (not a.barrier) (not a.settings.serial || is_empty a.epochs.closed) may in
-      (
+      let both : (not a.barrier ≡ true) × ((not a.settings.serial || is_empty a.epochs.closed) ≡ true) = and_parts (not a.barrier) (not a.settings.serial || is_empty a.epochs.closed) may in (
         no_barrier_is m.unsent (other_way a.barrier (no_barrier m.unsent) h.barrier both.0),
         λ serial. markers_empty a.epochs.closed m.unsent h.markers (or_so a.settings.serial (is_empty a.epochs.closed) both.1 serial),
       )
