@@ -1,14 +1,10 @@
 -- What holds of a controller that was just made.
-use Rattle.std.proofs.Common.{◌≡◌, ℕ, zero, suc, ◌+◌, ◌*◌, ◌<◌, ◌≤◌, ℤ, List, [], ◌∷◌, length, replicate, Bool, true, false, not, Option, Some, None, slice_index_or, refl, sym, ap, ap₂, ◌∙◌, subst, arith}
-use Rattle.std.specs.List.{Contains}
+use Rattle.std.proofs.Common.{◌≡◌, ℕ, zero, suc, ◌+◌, ◌<◌, List, [], length, replicate, Option, None, slice_index_or, refl, sym, ap, ap₂, ◌∙◌, subst, arith}
 use Rattle.std.proofs.lemmas.List.{length-replicate}
-use Rattle.ax_text.specs.Programs.{program_width}
-use Rattle.ax_lang.specs.declared.program.Program.{Program}
 use Rattle.ax_lang.specs.Shown.{shown_program}
 use Rattle.ax_machine.specs.Entries.{Key}
-use Rattle.ax_machine.specs.Sync.{first_wm}
 use Rattle.ax_buffer.specs.declared.items.Item.{Item}
-use Rattle.ax_buffer.specs.Buffer.{Buffer, queue_of, total}
+use Rattle.ax_buffer.specs.Buffer.{queue_of, total}
 use Rattle.ax_context.specs.declared.id.Id.{Id}
 use Rattle.ax_context.specs.declared.contexts.Context.{Context as Held}
 use Rattle.ax_context.specs.Slots.{Slots, at, live_count}
@@ -18,19 +14,18 @@ use Rattle.ax_time.specs.declared.timer.Timer.{Timer}
 use Rattle.ax_time.specs.Timers.{times_of}
 use Rattle.ax_time.specs.Epochs.{Book, fresh, current_of, markers_of, count_of, count_at, place_of}
 use Rattle.ax_execution.specs.Origins.{first}
-use Rattle.ax_execution.specs.MachineControls.{MachineControl, at_origin}
+use Rattle.ax_execution.specs.MachineControls.{at_origin}
 use Rattle.ax_execution.proofs.Projected.{first_fits}
 use Rattle.ax_execution.proofs.ReachedLemmas.{origin_reached}
 use Rattle.ax_core.specs.declared.record.Record.{Record}
 use Rattle.ax_core.specs.declared.record.Name.{Name}
-use Rattle.ax_core.specs.declared.settings.Settings.{Settings}
 use Rattle.ax_core.specs.declared.controller.Controller.{Controller}
 use Rattle.ax_core.specs.Contexts.{wrapped, waits_at}
 use Rattle.ax_core.specs.Keys.{PartStands}
 use Rattle.ax_core.specs.Flow.{one_if, queued_as, named_as, answered_as, started_as, in_queues, in_outs, waits_for, is_to_start, OwnsOnceBegun, out_of, IsFlow, on_the_way}
 use Rattle.ax_core.specs.Epochs.{MarkersStand, EpochsStand}
-use Rattle.ax_core.specs.Stands.{Stands}
-use Rattle.ax_core.specs.Sound.{InRange, rules_of, HasRooms, StandsFor, IsSound}
+use Rattle.ax_core.specs.Rooms.{IsNew}
+use Rattle.ax_core.specs.Sound.{InRange, rules_of, StandsFor, IsSound}
 
 -- lists that are empty, one for each shard
 
@@ -46,19 +41,6 @@ none_at (suc n) (suc k) x = none_at n k x
 nothing_counts : (place : ℕ) → count_at [] 0 place ≡ 0
 nothing_counts zero = refl
 nothing_counts (suc place) = refl
-
--- the parts of a new controller
-pub record IsNew (a : Controller) : Type 0 where
-  pub wm : a.wm ≡ first_wm
-  pub barrier : a.barrier ≡ false
-  pub contexts : a.contexts ≡ record { slots = []; limit = a.settings.in_flight; next = 1 }
-  pub accounts : a.accounts ≡ record { parts = []; idle = [] }
-  pub queues : a.buffer.queues ≡ replicate a.settings.shards []
-  pub buffer : a.buffer.room ≡ a.settings.in_flight * program_width (shown_program a.program)
-  pub outs : a.outs.items ≡ replicate a.settings.shards []
-  pub mails : a.mails ≡ record { mails = []; room = a.settings.in_flight * (program_width (shown_program a.program) + 1) }
-  pub timers : a.timers ≡ []
-  pub epochs : a.epochs ≡ fresh
 
 module _ (a : Controller) (new : IsNew a) (ranges : InRange a.settings) where
   no_queue : (shard : ℕ) → queue_of a.buffer shard ≡ []
@@ -121,7 +103,7 @@ module _ (a : Controller) (new : IsNew a) (ranges : InRange a.settings) where
   pub fresh_sound : IsSound a
   fresh_sound = record {
     ranges = ranges;
-    rooms = record { contexts = ap (λ (s : Slots Record). s.limit) new.contexts; requests = new.buffer; mails = ap (λ (q : Queue). q.room) new.mails };
+    rooms = record { contexts = ap (λ (s : Slots Record). s.limit) new.contexts; requests = new.requests; mails = ap (λ (q : Queue). q.room) new.mails };
     flow = flow;
     control = at_origin (first (shown_program a.program));
     stands = begins;

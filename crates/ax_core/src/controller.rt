@@ -1,14 +1,17 @@
 //! The controller, and what can be asked of it.
-ghost use Rattle.std.specs.Prelude.{◌≡◌, ◌<◌, ◌≤◌, IfOk};
+ghost use Rattle.std.specs.Prelude.{◌≡◌, ◌<◌, IfOk};
+ghost use Rattle.ax_text.specs.Programs.{program_width};
 ghost use Rattle.ax_lang.specs.Shown.{shown_program};
 ghost use Rattle.ax_time.specs.Timers.{times_of};
 ghost use Rattle.ax_machine.specs.Entries.{Key as AnyKey};
 ghost use Rattle.ax_execution.specs.Origins.{first};
 ghost use Rattle.ax_execution.specs.MachineControls.{MachineControl, at_origin, in_flight_on};
 ghost use Rattle.ax_core.specs.Flow.{shard_of};
+ghost use Rattle.ax_core.specs.Rooms.{AreTaken, IsNew};
 ghost use Rattle.ax_core.specs.Sound.{InRange, StandsFor, IsSound};
 
 use crate::record::{Name, Record};
+use crate::rooms::{Rooms, take_rooms};
 use crate::settings::Settings;
 use ax_account::Accounting;
 use ax_base::{ListOf, NoMemory};
@@ -51,21 +54,8 @@ impl Controller {
         ensures settings { IfOk result (λ a. a.settings ≡ settings) }
         ensures stands { IfOk result (λ a. StandsFor a (at_origin (first (shown_program program)))) }
     {
-        let width = u32::from(program.width());
-        Ok(Controller {
-            alloc,
-            settings,
-            wm: first_watermark(),
-            barrier: false,
-            contexts: Contexts::with_limit(alloc, settings.in_flight)?,
-            accounts: Accounting::new(alloc),
-            buffer: RequestBuffer::with_room(alloc, settings.shards, settings.in_flight * width)?,
-            outs: no_batches(alloc, settings.shards)?,
-            mails: Mailbox::with_room(alloc, settings.in_flight * (width + 1))?,
-            timers: Timers::new(alloc),
-            epochs: Epochs::new(alloc),
-            program,
-        })
+        let rooms = take_rooms(alloc, settings, program.width())?;
+        Ok(begin(alloc, program, settings, rooms))
     }
 
     /// How many contexts are in flight: rows that were admitted and timers that fired, until their handlers have ended.
@@ -114,13 +104,25 @@ impl Controller {
     }
 }
 
-// No batch is out of any shard.
-fn no_batches(alloc: Global, shards: u16) -> Result<Vec<ListOf<Name>>, NoMemory> {
-    let Ok(mut outs) = Vec::with_capacity(alloc, shards as usize) else {
-        return Err(NoMemory);
-    };
-    for _ in 0..shards {
-        outs.push_reserved(ListOf::new(alloc));
+// A controller with these rooms.
+fn begin(alloc: Global, program: Program, settings: Settings, rooms: Rooms) -> Controller
+    requires { AreTaken settings (program_width (shown_program program)) rooms }
+    ensures new { IsNew result }
+    ensures program { result.program ≡ program }
+    ensures settings { result.settings ≡ settings }
+{
+    Controller {
+        alloc,
+        program,
+        settings,
+        wm: first_watermark(),
+        barrier: false,
+        contexts: rooms.contexts,
+        accounts: Accounting::new(alloc),
+        buffer: rooms.buffer,
+        outs: rooms.outs,
+        mails: rooms.mails,
+        timers: Timers::new(alloc),
+        epochs: Epochs::new(alloc),
     }
-    Ok(outs)
 }

@@ -9,7 +9,7 @@
 //! - `controller`: `Controller`, with what can be asked of it.
 //! - `admission`, `closing`, `firing`, `callbacks` and `batches`: its calls.
 //!
-//! The private module `record` has what is held of a context.
+//! Private modules: `record` has what is held of a context, and `rooms` what a controller takes when it is made.
 #![tactic(auto)]
 
 mod admission;
@@ -20,6 +20,7 @@ pub mod controller;
 pub mod effects;
 mod firing;
 mod record;
+mod rooms;
 pub mod settings;
 
 pub use ax_future::Outs;
