@@ -1,0 +1,12 @@
+pub mod Frames
+pub mod Admits
+pub mod Open
+pub mod Flows
+pub mod Begins
+pub mod Counting
+pub mod Waits
+pub mod Owners
+pub mod BatchLemmas
+pub mod Serves
+pub mod Forgotten
+pub mod Deliveries

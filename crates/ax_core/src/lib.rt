@@ -1,0 +1,30 @@
+//! The controller of asynchronous execution, after Flink's `AsyncExecutionController` (FLIP-425).
+//!
+//! A `Controller` takes rows and closes epochs, runs the callbacks of handlers one after the other, hands out the requests of
+//! the states in batches, and takes their replies. Each of its calls makes events of the machine of `ax_execution`, whatever
+//! the states hold: one record of a key at a time, and markers behind all work that precedes them.
+//!
+//! - `settings`: `Settings`, how a controller works.
+//! - `effects`: `Fired`, `Ran` and `Effects`, what a callback did.
+//! - `controller`: `Controller`, with what can be asked of it.
+//! - `admission`, `closing`, `firing`, `callbacks` and `batches`: its calls.
+//!
+//! Private modules: `record` has what is held of a context, and `rooms` what a controller takes when it is made.
+#![tactic(auto)]
+
+mod admission;
+mod batches;
+mod callbacks;
+mod closing;
+pub mod controller;
+pub mod effects;
+mod firing;
+mod record;
+mod rooms;
+pub mod settings;
+
+pub use ax_future::Outs;
+pub use ax_time::Marker;
+pub use controller::Controller;
+pub use effects::{Effects, Fired, Ran};
+pub use settings::Settings;
