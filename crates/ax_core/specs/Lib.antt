@@ -8,3 +8,4 @@ pub mod Events
 pub mod May
 pub mod Batches
 pub mod Rooms
+pub mod Firings
