@@ -2,4 +2,6 @@ pub mod Frames
 pub mod Admits
 pub mod Open
 pub mod Flows
+pub mod Sends
+pub mod Sent
 pub mod Begins

@@ -6,3 +6,4 @@ pub mod Stands
 pub mod Sound
 pub mod Events
 pub mod May
+pub mod Closings
