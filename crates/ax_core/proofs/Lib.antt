@@ -2,6 +2,8 @@ pub mod Frames
 pub mod Admits
 pub mod Open
 pub mod Flows
+pub mod Sends
+pub mod Sent
 pub mod Begins
 pub mod Counting
 pub mod Waits

@@ -9,3 +9,4 @@ pub mod May
 pub mod Batches
 pub mod Rooms
 pub mod Firings
+pub mod Closings

@@ -1,0 +1,10 @@
+use Rattle.ax_core.proofs.Sent.{next_sent, next_sound}
+use Rattle.ax_core.proofs.controller.Controller.next_marker.Goals as goal
+
+pub returns-clause-sound : goal.returns-clause-sound
+returns-clause-sound c = next_sound c.counts_stay_law.ensures.taken c.args.self.now c.take_finished-marker.result c.barrier_left-self.result c.take_finished-marker.new.self
+    c.sizes_law.ensures c.take_finished-marker.ensures.action c.take_finished-marker.ensures.book c.barrier_left-self.ensures c.requires
+
+pub returns-clause-event : goal.returns-clause-event
+returns-clause-event c = next_sent c.counts_stay_law.ensures.taken c.args.self.now c.take_finished-marker.result c.barrier_left-self.result c.take_finished-marker.new.self
+    c.sizes_law.ensures c.take_finished-marker.ensures.action c.take_finished-marker.ensures.book c.barrier_left-self.ensures
