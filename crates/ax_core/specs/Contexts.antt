@@ -48,8 +48,8 @@ StageStands p mails id (Some m) Unbegun = ⊥
 StageStands p mails id (Some m) (Begun r) = IsRunning p mails id m r
 
 -- a row of this key, or a timer of it, with its facts
-pub record IsJob (key : List ℕ) (r : Record) (j : Job) : Type 0 where
-  pub key : r.facts.key ≡ key
+pub record IsJob (k : List ℕ) (r : Record) (j : Job) : Type 0 where
+  pub key : r.facts.key ≡ k
   pub handler : r.handler ≡ j.handler
   pub facts : facts_in r.facts ≡ j.facts
 

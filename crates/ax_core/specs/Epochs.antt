@@ -24,8 +24,8 @@ MarkersStand (m ∷ ms) [] = ⊥
 MarkersStand (m ∷ ms) (c ∷ cs) = (m ≡ marker_of c.closing) × MarkersStand ms cs
 
 -- the current epoch, the closed ones whose markers aren't sent, and how much of each is left
-pub record EpochsStand (book : Book) (barrier : Bool) (m : MachineControl) : Type 0 where
+pub record EpochsStand (book : Book) (closing : Bool) (m : MachineControl) : Type 0 where
   pub current : current_of book ≡ wrapped m.epoch
   pub markers : MarkersStand (markers_of book.closed) m.unsent
   pub counts : (e : ℕ) → e ≤ m.epoch → m.epoch ≤ e + length m.unsent → count_of book (wrapped e) ≡ epoch_count_on e m
-  pub barrier : barrier ≡ not (no_barrier m.unsent)
+  pub barrier : closing ≡ not (no_barrier m.unsent)

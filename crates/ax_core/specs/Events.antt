@@ -40,7 +40,7 @@ pub record Makes (old new : Controller) (e : Happening) (m : MachineControl) : T
 
 -- a row may come in, as far as its number doesn't matter
 pub record MayAdmitOn (a : Controller) (m : MachineControl) : Type 0 where
-  pub open : IsOpenOn (rules_of a.settings) m
+  pub is_open : IsOpenOn (rules_of a.settings) m
   pub room : in_flight_on m < a.settings.in_flight
   pub busy : NoneIsIdleOn m
 
@@ -119,8 +119,8 @@ abbrev pub OwnerAsks : Item → Option Context → Type 0
 OwnerAsks i None = ⊥
 OwnerAsks i (Some c) = StageAsksIt i c.stage
 
-pub record Asks (a : Controller) (shard : ℕ) (m : MachineControl) (i : Item) : Type 0 where
-  pub shard : shard_of a.settings i.key ≡ shard
+pub record Asks (a : Controller) (place : ℕ) (m : MachineControl) (i : Item) : Type 0 where
+  pub shard : shard_of a.settings i.key ≡ place
   pub asks : OwnerAsks i (m.controls i.key).owner
 
 abbrev pub AsksAll : Controller → ℕ → MachineControl → List Item → Type 0

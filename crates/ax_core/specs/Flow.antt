@@ -5,6 +5,8 @@ use Rattle.ax_text.specs.Controls.{Ask'}
 use Rattle.ax_text.specs.Prints.{has}
 use Rattle.ax_keys.specs.Groups.{group, index_of_group}
 use Rattle.ax_machine.specs.Entries.{Key}
+use Rattle.ax_lang.specs.declared.program.Program.{Program}
+use Rattle.ax_future.specs.declared.machine.Machine.{Machine}
 use Rattle.ax_buffer.specs.declared.items.Item.{Item}
 use Rattle.ax_buffer.specs.Buffer.{queue_of, total}
 use Rattle.ax_context.specs.declared.id.Id.{Id}
@@ -63,7 +65,7 @@ abbrev pub in_queues : Controller → Id → ℕ → ℕ
 in_queues a id slot = total (queued_as id slot) a.buffer.queues
 
 abbrev pub in_outs : Controller → Id → ℕ → ℕ
-in_outs a id slot = total (λ out. named_as id slot out.items) a.outs.items
+in_outs a id slot = total (named_as id slot) a.outs.items
 
 -- whether a request waits at a slot of a context, and whether a context owns its key and hasn't begun
 abbrev pub waits_for : List Ask' → ℕ → Bool
@@ -77,15 +79,24 @@ abbrev pub is_to_start : Controller → Id → Option (Held Record) → Bool
 is_to_start a id None = false
 is_to_start a id (Some h) = is_none h.payload.machine && is_owner id (owner_of a.accounts h.payload.facts.key)
 
+-- a context that has begun owns its key
+abbrev pub OwnsBegun : Controller → Id → Option Machine → Key → Type 0
+OwnsBegun a id None key = Unit {0}
+OwnsBegun a id (Some m) key = owner_of a.accounts key ≡ Some id
+
+abbrev pub OwnsOnceBegun : Controller → Id → Option (Held Record) → Type 0
+OwnsOnceBegun a id None = Unit {0}
+OwnsOnceBegun a id (Some h) = OwnsBegun a id h.payload.machine h.payload.facts.key
+
 -- what stands in a shard's queue is what a context of a key of that shard waits for
-pub record IsAsked (a : Controller) (shard : ℕ) (i : Item) (h : Held Record) : Type 0 where
+pub record IsAsked (p : Program) (s : Settings) (place : ℕ) (i : Item) (h : Held Record) : Type 0 where
   pub key : i.key ≡ h.payload.facts.key
-  pub shard : shard_of a.settings i.key ≡ shard
-  pub waits : Contains (waits_at a.program (Some h)) (record { slot = i.slot; request = i.request })
+  pub shard : shard_of s i.key ≡ place
+  pub waits : Contains (waits_at p (Some h)) (record { slot = i.slot; request = i.request })
 
 abbrev pub QueuedStands : Controller → ℕ → Item → Option (Held Record) → Type 0
 QueuedStands a shard i None = ⊥
-QueuedStands a shard i (Some h) = IsAsked a shard i h
+QueuedStands a shard i (Some h) = IsAsked a.program a.settings shard i h
 
 -- what is out of a shard is of a key of that shard
 abbrev pub OutStands : Controller → ℕ → Option (Held Record) → Type 0
@@ -93,17 +104,18 @@ OutStands a shard None = ⊥
 OutStands a shard (Some h) = shard_of a.settings h.payload.facts.key ≡ shard
 
 abbrev pub out_of : Controller → ℕ → List Name
-out_of a shard = (slice_index_or a.outs.items shard (record { items = [] })).items
+out_of a shard = slice_index_or a.outs.items shard []
 
 pub record IsFlow (a : Controller) : Type 0 where
   -- each request that waits stands in one place, once, and no other does
   pub once : (id : Id) (slot : ℕ) → in_queues a id slot + (in_outs a id slot + answered_as id slot a.mails.mails) ≡ one_if (waits_for (waits_at a.program (at a.contexts id)) slot)
   -- each owner that hasn't begun has one mail that starts it, and no other context has
   pub starts : (id : Id) → started_as id a.mails.mails ≡ one_if (is_to_start a id (at a.contexts id))
+  pub begun : (id : Id) → OwnsOnceBegun a id (at a.contexts id)
   pub queued : (shard : ℕ) (i : Item) → Contains (queue_of a.buffer shard) i → QueuedStands a shard i (at a.contexts i.id)
   pub out : (shard : ℕ) (n : Name) → Contains (out_of a shard) n → OutStands a shard (at a.contexts n.id)
   pub shards : (length a.buffer.queues ≡ a.settings.shards) × (length a.outs.items ≡ a.settings.shards)
 
 -- how much is on its way: requests in queues and out, and mails
 abbrev pub on_the_way : Controller → ℕ
-on_the_way a = total length a.buffer.queues + (total (λ out. length out.items) a.outs.items + length a.mails.mails)
+on_the_way a = total length a.buffer.queues + (total length a.outs.items + length a.mails.mails)

@@ -24,9 +24,9 @@ OwnerStands p mails s key (Some id) None = ⊥
 OwnerStands p mails s key (Some id) (Some c) = ContextStands p mails key id (at s id) c
 
 -- a mark with the firings that it has made, and those that it may still make
-pub record IsMark (epoch : ℕ) (time : ℤ) (fired : ℕ) (e : ℕ) (w : ℤ) (more : ℕ) : Type 0 where
-  pub epoch : epoch ≡ wrapped e
-  pub time : time ≡ w
+pub record IsMark (u : ℕ) (v : ℤ) (fired : ℕ) (e : ℕ) (w : ℤ) (more : ℕ) : Type 0 where
+  pub epoch : u ≡ wrapped e
+  pub time : v ≡ w
   pub firings : fired + more ≡ most_firings
 
 abbrev pub ItemStands : Program → List Mail → Slots Record → Key → Item → Waiting → Type 0
@@ -42,10 +42,10 @@ ItemsStand p mails s key [] (w ∷ ws) = ⊥
 ItemsStand p mails s key (i ∷ is) [] = ⊥
 ItemsStand p mails s key (i ∷ is) (w ∷ ws) = ItemStands p mails s key i w × ItemsStand p mails s key is ws
 
-pub record PartStands (p : Program) (mails : List Mail) (s : Slots Record) (key : Key) (part : Part) (times : List ℤ) (c : KeyControl) : Type 0 where
+pub record PartStands (p : Program) (mails : List Mail) (s : Slots Record) (key : Key) (part : Part) (due : List ℤ) (c : KeyControl) : Type 0 where
   pub owner : OwnerStands p mails s key part.owner c.owner
   pub items : ItemsStand p mails s key part.waiting c.waiting
-  pub times : times ≡ c.times
+  pub times : due ≡ c.times
 
 -- the account of a key with its contexts and mails, and its timers
 abbrev pub KeyStands : Controller → Key → KeyControl → Type 0

@@ -13,7 +13,7 @@ use ax_base::{Duplicate, NoMemory};
 use ax_buffer::Item;
 use ax_context::{Id, Released};
 use ax_future::{Ask, Asks, Handler, Machine, TimerOp, TimerOps, Turn};
-use ax_keys::{Key, group, index_of_group};
+use ax_keys::Key;
 use ax_lang::Program;
 use ax_mailbox::Mail;
 use ax_state::Answer;
@@ -123,12 +123,6 @@ impl Controller {
             self.buffer.push(shard, item);
         }
         Ok(())
-    }
-
-    // The shard that holds a key's states.
-    pub(crate) fn shard_of(&self, key: &Key) -> u16 {
-        let groups = self.settings.groups;
-        index_of_group(group(key, groups), groups, self.settings.shards)
     }
 
     // A key without owner: a row in front owns it; marks that fire nothing end, and one that does fires.

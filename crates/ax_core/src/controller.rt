@@ -1,18 +1,20 @@
 //! The controller, and what can be asked of it.
-ghost use Rattle.std.specs.Prelude.{◌≡◌, ◌≤◌, IfOk};
+ghost use Rattle.std.specs.Prelude.{◌≡◌, ◌<◌, ◌≤◌, IfOk};
 ghost use Rattle.ax_lang.specs.Shown.{shown_program};
 ghost use Rattle.ax_time.specs.Timers.{times_of};
-ghost use Rattle.ax_machine.specs.Entries.{Key};
+ghost use Rattle.ax_machine.specs.Entries.{Key as AnyKey};
 ghost use Rattle.ax_execution.specs.Origins.{first};
 ghost use Rattle.ax_execution.specs.MachineControls.{MachineControl, at_origin, in_flight_on};
+ghost use Rattle.ax_core.specs.Flow.{shard_of};
 ghost use Rattle.ax_core.specs.Sound.{InRange, StandsFor, IsSound};
 
 use crate::record::{Name, Record};
 use crate::settings::Settings;
 use ax_account::Accounting;
-use ax_base::NoMemory;
+use ax_base::{ListOf, NoMemory};
 use ax_buffer::RequestBuffer;
 use ax_context::Contexts;
+use ax_keys::{Key, group, index_of_group};
 use ax_lang::Program;
 use ax_mailbox::Mailbox;
 use ax_machine::first_watermark;
@@ -32,7 +34,7 @@ pub struct Controller {
     pub(crate) accounts: Accounting,
     pub(crate) buffer: RequestBuffer,
     // For each shard the batches that are out, by what their requests are called.
-    pub(crate) outs: Vec<Vec<Name>>,
+    pub(crate) outs: Vec<ListOf<Name>>,
     pub(crate) mails: Mailbox,
     pub(crate) timers: Timers,
     pub(crate) epochs: Epochs,
@@ -49,9 +51,9 @@ impl Controller {
     ) -> Result<Controller, NoMemory>
         requires { InRange settings }
         ensures sound { IfOk result (λ a. IsSound a) }
-        ensures program { IfOk result (λ a. a.program ≡ program.now) }
+        ensures program { IfOk result (λ a. a.program ≡ program) }
         ensures settings { IfOk result (λ a. a.settings ≡ settings) }
-        ensures stands { IfOk result (λ a. StandsFor a (at_origin (first (shown_program program.now)))) }
+        ensures stands { IfOk result (λ a. StandsFor a (at_origin (first (shown_program program)))) }
     {
         let width = u32::from(program.width());
         Ok(Controller {
@@ -97,7 +99,7 @@ impl Controller {
 
     /// The timers of all keys.
     pub fn timers(&self) -> &Timers
-        ensures { (m : MachineControl) (k : Key) → StandsFor self.now m → times_of result.now k ≡ (m.controls k).times }
+        ensures { (m : MachineControl) (k : AnyKey) → StandsFor self.now m → times_of result.now k ≡ (m.controls k).times }
     {
         &self.timers
     }
@@ -108,15 +110,25 @@ impl Controller {
     {
         &self.program
     }
+
+    // The shard that holds a key's states.
+    pub(crate) fn shard_of(&self, key: &Key) -> u16
+        requires { InRange self.now.settings }
+        ensures value { result ≡ shard_of self.now.settings key.now }
+        ensures small { result < self.now.settings.shards }
+    {
+        let groups = self.settings.groups;
+        index_of_group(group(key, groups), groups, self.settings.shards)
+    }
 }
 
 // No batch is out of any shard.
-fn no_batches(alloc: Global, shards: u16) -> Result<Vec<Vec<Name>>, NoMemory> {
+fn no_batches(alloc: Global, shards: u16) -> Result<Vec<ListOf<Name>>, NoMemory> {
     let Ok(mut outs) = Vec::with_capacity(alloc, shards as usize) else {
         return Err(NoMemory);
     };
     for _ in 0..shards {
-        outs.push_reserved(Vec::new(alloc));
+        outs.push_reserved(ListOf::new(alloc));
     }
     Ok(outs)
 }

@@ -8,11 +8,12 @@ use Rattle.ax_text.specs.Cells.{answer_of}
 use Rattle.ax_text.specs.Programs.{Program}
 use Rattle.ax_text.specs.Controls.{request_at}
 use Rattle.ax_text.specs.Jobs.{firing_job}
+use Rattle.ax_text.specs.Silent.{unanswered}
 use Rattle.ax_machine.specs.Entries.{Key}
 use Rattle.ax_machine.specs.Sync.{without_least}
 use Rattle.ax_machine.specs.KeySync.{Said}
 use Rattle.ax_execution.specs.Contexts.{Running, Stage, Unbegun, Begun, Context, new_context, row_context, Waiting, Row, Mark, Part, is_due, is_idle_with, is_idle}
-use Rattle.ax_execution.specs.Turns.{timed, left_by, staged, called_back, no_answers, begins, start_stage, start_owner, start, answered, applied, serve_request, serve_stage, serve_owner, serve, gives, give_answer, deliver_stage, deliver_owner, deliver, Effects, effects_of, stage_starts, owner_starts, start_effects, answer_gives, stage_gives, owner_gives, deliver_effects, fire_due, fire_front, fire, admit_at, mark_at}
+use Rattle.ax_execution.specs.Turns.{timed, left_by, staged, called_back, begins, start_stage, start_owner, start, answered, applied, serve_request, serve_stage, serve_owner, serve, gives, give_answer, deliver_stage, deliver_owner, deliver, Effects, effects_of, stage_starts, owner_starts, start_effects, answer_gives, stage_gives, owner_gives, deliver_effects, fire_due, fire_front, fire, admit_at, mark_at}
 use Rattle.ax_execution.specs.Allowed.{StageUnbegun, StageAsks, StageHas, OfOwner}
 use Rattle.ax_execution.proofs.Upto.{part_of}
 use Rattle.ax_execution.proofs.Stuck.{FrontFires, IsOrdered, none_some}
@@ -23,7 +24,7 @@ true_false e = cc e
 -- the owner begins
 module _ (P : Part → Effects → Type 0) (p : Program) (part : Part)
     (begun : (c : Context) → part.owner ≡ Some c → c.stage ≡ Unbegun
-    → P (called_back c (left_by (begins p c.job) no_answers [] 0) part.waiting (timed (begins p c.job) part.said)) (effects_of (begins p c.job))) where
+    → P (called_back c (left_by (begins p c.job) unanswered [] 0) part.waiting (timed (begins p c.job) part.said)) (effects_of (begins p c.job))) where
   start_at : (c : Context) (st : Stage) → part.owner ≡ Some c → c.stage ≡ st → StageUnbegun st → P (start_stage p c st part) (stage_starts p c.job st)
   start_at c Unbegun e x h = begun c e x
   start_at c (Begun r) e x h = absurd h

@@ -7,10 +7,11 @@ use Rattle.ax_text.specs.Exprs.{Facts}
 use Rattle.ax_text.specs.Jobs.{Job}
 use Rattle.ax_text.specs.Programs.{Program, untouched}
 use Rattle.ax_text.specs.Controls.{is_done, request_at}
+use Rattle.ax_text.specs.Silent.{unanswered}
 use Rattle.ax_machine.specs.KeySync.{Said}
 use Rattle.ax_execution.specs.Contexts.{Running, Stage, Unbegun, Begun, Context, Waiting, Row, Mark, Part, running_group, is_due, may_fire}
 use Rattle.ax_execution.specs.Rest.{silent_stage, silent}
-use Rattle.ax_execution.specs.Turns.{handed, timed, closed_with, left_by, staged, called_back, no_answers, begins, gives, start_owner, owner_starts, serve_request, serve_owner, serve, start, give_answer, deliver_owner, deliver, owner_gives, answer_gives, fire_due, fire_front, fire, admit_at, admit, mark_at, mark}
+use Rattle.ax_execution.specs.Turns.{handed, timed, closed_with, left_by, staged, called_back, begins, gives, start_owner, owner_starts, serve_request, serve_owner, serve, start, give_answer, deliver_owner, deliver, owner_gives, answer_gives, fire_due, fire_front, fire, admit_at, admit, mark_at, mark}
 use Rattle.ax_execution.specs.KeyControls.{control_of, SeesControl, answer_to, stage_answer, owner_answer, keeps_answer}
 
 abbrev key : Option Context → List Waiting → Said → Part
@@ -48,7 +49,7 @@ start_sees_at p (Some c) is s = of c.number c.epoch c.stage
         ≡ control_of (start_owner p (silent (Some (record { number = n; epoch = f; job = c.job; stage = st }))) (key (silent (Some (record { number = n; epoch = f; job = c.job; stage = st }))) is (bare_said s)))
     of n f Unbegun =
         let d : Context = record { number = n; epoch = f; job = c.job; stage = Unbegun } in
-        back_sees d d (left_by (begins p c.job) no_answers [] 0) (left_by (begins p c.job) no_answers [] 0) is (timed (begins p c.job) s) (timed (begins p c.job) (bare_said s)) refl refl refl
+        back_sees d d (left_by (begins p c.job) unanswered [] 0) (left_by (begins p c.job) unanswered [] 0) is (timed (begins p c.job) s) (timed (begins p c.job) (bare_said s)) refl refl refl
     of n f (Begun r) = refl
 
 pub start_sees : (p : Program) → SeesControl (start p)

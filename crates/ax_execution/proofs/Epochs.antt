@@ -6,12 +6,13 @@ use Rattle.ax_text.specs.Functions.{upd}
 use Rattle.ax_text.specs.Exprs.{Facts}
 use Rattle.ax_text.specs.Programs.{Program}
 use Rattle.ax_text.specs.Controls.{is_done}
+use Rattle.ax_text.specs.Silent.{unanswered}
 use Rattle.ax_machine.specs.Entries.{Key}
 use Rattle.ax_machine.specs.Firings.{most_firings}
 use Rattle.ax_machine.specs.KeySync.{Said}
 use Rattle.ax_execution.specs.Groups.{row_facts}
 use Rattle.ax_execution.specs.Contexts.{Running, running_group, Begun, Context, Waiting, Row, Mark, Part, rows_in, may_fire}
-use Rattle.ax_execution.specs.Turns.{handed, closed_with, left_by, staged, called_back, no_answers, begins, gives, Effects, admit, mark, fire, start, serve, deliver}
+use Rattle.ax_execution.specs.Turns.{handed, closed_with, left_by, staged, called_back, begins, gives, Effects, admit, mark, fire, start, serve, deliver}
 use Rattle.ax_execution.specs.Machine.{Closing, ByWatermark, ByBarrier, Closed, Machine, Happening, Admit, Close, Fire, Start, Serve, Deliver, Send, Rules, part_at, send_first, happens, after_all, taken, machine_from, machine_of}
 use Rattle.ax_execution.specs.Origins.{Origin, IsOrigin}
 use Rattle.ax_execution.specs.Allowed.{OwnedLater, WaitLater, IsFinished, FirstIsFinished, Allowed, IsRun}
@@ -151,7 +152,7 @@ module _ (r : Rules) (m : Machine) (o : IsOrderly r m) (a : IsPunctual m) (g : �
 
   started : (k : Key) → Allowed r (Start k) m → IsTimely a.oldest m.epoch (start p (m.parts k))
   started k h = start_case (λ (q : Part) (e : Effects). IsTimely a.oldest m.epoch q) p (m.parts k)
-      (λ c x y. back_timely a.oldest m.epoch c (left_by (begins p c.job) no_answers [] 0) (m.parts k) _ x (a.parts k)) h.1
+      (λ c x y. back_timely a.oldest m.epoch c (left_by (begins p c.job) unanswered [] 0) (m.parts k) _ x (a.parts k)) h.1
 
   delivered : (k : Key) (slot : ℕ) → Allowed r (Deliver k slot) m → IsTimely a.oldest m.epoch (deliver slot (m.parts k))
   delivered k slot h = deliver_case (λ (q : Part) (e : Effects). IsTimely a.oldest m.epoch q) slot (m.parts k)

@@ -18,11 +18,12 @@ use Rattle.ax_machine.specs.Sync.{without_least}
 use Rattle.ax_machine.proofs.FiringLemmas.{same_key}
 use Rattle.ax_text.specs.Controls.{Control, Done, Wait, Arms, left, is_done, slots, request_at}
 use Rattle.ax_text.specs.Jobs.{Job, Group, firing_job}
+use Rattle.ax_text.specs.Silent.{unanswered}
 use Rattle.ax_execution.specs.Groups.{handler_weight, weight, unsaid}
 use Rattle.ax_machine.specs.KeySync.{Said}
 use Rattle.ax_execution.specs.Contexts.{Running, running_group, Stage, Unbegun, Begun, stage_group, Context, new_context, Waiting, Row, Mark, Part, part_groups, rows_in, is_due, is_idle_with, is_idle}
 use Rattle.ax_execution.specs.Rest.{served_at, stage_work, owner_work, part_work}
-use Rattle.ax_execution.specs.Turns.{handed, timed, closed_with, left_by, staged, called_back, no_answers, begins, start_stage, start_owner, start, answered, serve_request, serve_stage, serve_owner, serve, gives, give_answer, deliver_stage, deliver_owner, deliver, fire_due, fire_front, fire, start_effects, deliver_effects}
+use Rattle.ax_execution.specs.Turns.{handed, timed, closed_with, left_by, staged, called_back, begins, start_stage, start_owner, start, answered, serve_request, serve_stage, serve_owner, serve, gives, give_answer, deliver_stage, deliver_owner, deliver, fire_due, fire_front, fire, start_effects, deliver_effects}
 use Rattle.ax_execution.specs.Machine.{Closed, Machine, Happening, Admit, Close, Fire, Start, Serve, Deliver, Send, Rules, part_at, must_fire, goes_on, send_first, happens, taken, machine_from, machine_of, IsWork, work}
 use Rattle.ax_execution.specs.Allowed.{FirstIsFinished, StageUnbegun, StageAsks, StageHas, OfOwner, Allowed, IsRun}
 use Rattle.ax_execution.specs.Origins.{Origin, IsOrigin}
@@ -52,15 +53,15 @@ done_slots Done h = refl
 done_slots (Wait s r after k) h = absurd (true_false h)
 done_slots (Arms one two k) h = absurd (true_false h)
 
-served_none : (xs : List ℕ) → served_at no_answers xs ≡ 0
+served_none : (xs : List ℕ) → served_at unanswered xs ≡ 0
 served_none [] = refl
-served_none (x ∷ xs) = let h : served_at no_answers xs ≡ 0 = served_none xs in omega arith
+served_none (x ∷ xs) = let h : served_at unanswered xs ≡ 0 = served_none xs in omega arith
 
 one_group : (gs : List Group) (g : Group) → weight (gs ++ g ∷ []) ≡ weight gs + (handler_weight g.job.handler + 2 * g.served)
 one_group gs g = let h : weight (gs ++ g ∷ []) ≡ weight gs + weight (g ∷ []) = weight_append gs (g ∷ []) in omega arith
 
 module _ (p : Program) (Good : Running → Type 0) (H : Handles p Good) where
-  served_more : (j : Job) (r : Running) (s : Said) → r.served ≤ (left j.facts r.answers r.control (handles.goes_in r s.state.cells)).served
+  pub served_more : (j : Job) (r : Running) (s : Said) → r.served ≤ (left j.facts r.answers r.control (handles.goes_in r s.state.cells)).served
   served_more j r s =
       let e : (left j.facts r.answers r.control (handles.goes_in r s.state.cells)).served ≡ r.served + (left j.facts r.answers r.control (handles.goes_in (silenced r) s.state.cells)).served =
       ap (λ (w : World). w.served) (H.left_further j r s.state.cells) in omega arith
@@ -92,7 +93,7 @@ module _ (p : Program) (Good : Running → Type 0) (H : Handles p Good) where
 
   start_at : (c : Context) (st : Stage) (is : List Waiting) (s : Said) → StageUnbegun st → Does (part_of (Some (staged c st)) is s) (start_stage p c st (part_of (Some (staged c st)) is s))
   start_at c Unbegun is s h =
-      let r : Running = left_by (begins p c.job) no_answers [] 0 in
+      let r : Running = left_by (begins p c.job) unanswered [] 0 in
       back_does c Unbegun r is s (timed (begins p c.job) s)
       (one_group s.groups (running_group c.job r) ∙ sym (one_group s.groups (unsaid c.job)))
       (ap suc (served_none (slots r.control)))

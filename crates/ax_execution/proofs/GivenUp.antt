@@ -13,6 +13,7 @@ use Rattle.ax_text.specs.Prints.{has}
 use Rattle.ax_text.specs.Controls.{Control, Done, Wait, Arms, Rest, Ask' as Asked, slots, waiting, replaced, is_done}
 use Rattle.ax_text.specs.Jobs.{Job, firing_job, text_for}
 use Rattle.ax_text.proofs.Asked.{begin_asked, give_asked, slots_waiting}
+use Rattle.ax_text.specs.Silent.{silent as silent_talk, unanswered}
 use Rattle.ax_machine.specs.Entries.{Key}
 use Rattle.ax_machine.specs.Firings.{most_firings}
 use Rattle.ax_machine.specs.KeySync.{Said}
@@ -21,7 +22,7 @@ use Rattle.ax_execution.specs.Groups.{row_facts, on_row}
 use Rattle.ax_execution.specs.Contexts.{Running, running_group, Unbegun, Begun, Context, new_context, Waiting, Row, Mark, Part, contexts_in, owners, rows_in, may_fire}
 use Rattle.ax_execution.specs.Sums.{total}
 use Rattle.ax_execution.specs.Counts.{references, one_at, owner_numbered, rows_numbered, part_numbered, number_count, owner_references, part_references, reference_count, one_if_gone, made, made_as, owns, calls, counted}
-use Rattle.ax_execution.specs.Turns.{handed, closed_with, left_by, staged, called_back, no_answers, begins, answered, gives, silent_talk, Effects, effects_of, start_effects, deliver_effects, admit, mark, fire, start, serve, deliver}
+use Rattle.ax_execution.specs.Turns.{handed, closed_with, left_by, staged, called_back, begins, answered, gives, Effects, effects_of, start_effects, deliver_effects, admit, mark, fire, start, serve, deliver}
 use Rattle.ax_execution.specs.Machine.{ByWatermark, ByBarrier, Closed, Machine, Happening, Admit, Close, Fire, Start, Serve, Deliver, Send, Rules, part_at, send_first, happens, sends_first, outcome, in_flight}
 use Rattle.ax_execution.specs.Allowed.{StageUnbegun, StageAsks, StageHas, Allowed}
 use Rattle.ax_execution.proofs.Upto.{by_cases, part_of, StageGood, OwnerGood}
@@ -115,7 +116,7 @@ module _ (own : Context → ℕ) (row : ℕ → ℕ) (fresh : (n e : ℕ) (j : J
       (same : (c : Context) (x : Running) (slot : ℕ) (a : Answer) → c.stage ≡ Begun x → own (staged c (Begun (answered x slot a))) ≡ own c)
       (lost gained : Option Context → Effects → ℕ) (p : Program)
       (begun : (c : Context) → c.stage ≡ Unbegun
-      → left_weight own c (left_by (begins p c.job) no_answers [] 0) + lost (Some c) (effects_of (begins p c.job)) ≡ own c + gained (Some c) (effects_of (begins p c.job)))
+      → left_weight own c (left_by (begins p c.job) unanswered [] 0) + lost (Some c) (effects_of (begins p c.job)) ≡ own c + gained (Some c) (effects_of (begins p c.job)))
       (given : (c : Context) (x : Running) (slot : ℕ) (a : Answer) → OwnerGood Good (Some c) → c.stage ≡ Begun x → x.answers slot ≡ Some a
       → left_weight own c (left_by (gives c.job x slot a) (upd x.answers slot None) x.lines x.served) + lost (Some c) (effects_of (gives c.job x slot a)) ≡ own c + gained (Some c) (effects_of (gives c.job x slot a)))
       (good : (k : Key) → OwnerGood Good (m.parts k).owner) where
@@ -165,7 +166,7 @@ module _ (own : Context → ℕ) (row : ℕ → ℕ) (fresh : (n e : ℕ) (j : J
 
     started : (k : Key) → Allowed r (Start k) m → part_weight own row (start p (m.parts k)) + lost (m.parts k).owner (start_effects p (m.parts k)) ≡ part_weight own row (m.parts k) + gained (m.parts k).owner (start_effects p (m.parts k))
     started k h = start_case (λ (q : Part) (e : Effects). part_weight own row q + lost (m.parts k).owner e ≡ part_weight own row (m.parts k) + gained (m.parts k).owner e) p (m.parts k)
-        (λ c x y. back c (left_by (begins p c.job) no_answers [] 0) (effects_of (begins p c.job)) (m.parts k) _ x (begun c y)) h.1
+        (λ c x y. back c (left_by (begins p c.job) unanswered [] 0) (effects_of (begins p c.job)) (m.parts k) _ x (begun c y)) h.1
 
     delivered : (k : Key) (slot : ℕ) → Allowed r (Deliver k slot) m
         → part_weight own row (deliver slot (m.parts k)) + lost (m.parts k).owner (deliver_effects slot (m.parts k)) ≡ part_weight own row (m.parts k) + gained (m.parts k).owner (deliver_effects slot (m.parts k))
@@ -275,7 +276,7 @@ replaced_length s others (a ∷ xs) h = by_cases (nat_eq s a.slot)
 begun_length : (p : Program) (j : Job) → length (slots (begins p j).control) ≡ length (begins p j).asks
 begun_length p j = asked_length (begins p j).control ∙ ap (λ (xs : List Asked). length xs) (begin_asked j.facts (Rest (text_for p j.handler) ∷ []) [] (silent_talk (λ i. pos 0)))
 
-given_length : (j : Job) (x : Running) (slot : ℕ) (a : Answer) → has slot (slots x.control) ≡ true → length (slots (gives j x slot a).control) + 1 ≡ length (slots x.control) + length (gives j x slot a).asks
+pub given_length : (j : Job) (x : Running) (slot : ℕ) (a : Answer) → has slot (slots x.control) ≡ true → length (slots (gives j x slot a).control) + 1 ≡ length (slots x.control) + length (gives j x slot a).asks
 given_length j x slot a h =
     let w : has slot (map (λ (b : Asked). b.slot) (waiting x.control)) ≡ true = ap (has slot) (sym (slots_waiting x.control)) ∙ h in
     let l : length (replaced slot (gives j x slot a).asks (waiting x.control)) + 1 ≡ length (waiting x.control) + length (gives j x slot a).asks = replaced_length slot (gives j x slot a).asks (waiting x.control) w in
@@ -365,7 +366,7 @@ module _ (r : Rules) (m : Machine) (o : IsOrderly r m) (rises : IsStrictlySorted
       ))
     where
       begun : (c : Context) → c.stage ≡ Unbegun
-          → left_weight (own_references n) c (left_by (begins p c.job) no_answers [] 0) + cond (nat_eq c.number n) 1 0 ≡ own_references n c + cond (nat_eq c.number n) (length (begins p c.job).asks) 0
+          → left_weight (own_references n) c (left_by (begins p c.job) unanswered [] 0) + cond (nat_eq c.number n) 1 0 ≡ own_references n c + cond (nat_eq c.number n) (length (begins p c.job).asks) 0
       begun c y = one_ends (is_done (begins p c.job).control) (nat_eq c.number n) (references c.stage) (length (begins p c.job).asks) (length (slots (begins p c.job).control))
           (let s : references c.stage ≡ 1 = ap references y in let l : length (slots (begins p c.job).control) ≡ length (begins p c.job).asks = begun_length p c.job in omega arith)
           (done_length (begins p c.job).control)

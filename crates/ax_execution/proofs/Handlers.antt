@@ -15,19 +15,20 @@ use Rattle.ax_text.specs.Run.{Talk, World, run, time_after, times_after}
 use Rattle.ax_text.specs.Prints.{has, is_accepted}
 use Rattle.ax_text.specs.Controls.{Rest, Control, Turn, Answers, slots, begin, without, give, left}
 use Rattle.ax_text.specs.Footprints.{ControlFits}
-use Rattle.ax_text.specs.Sound.{Split, everything}
+use Rattle.ax_text.specs.Sound.{Split, IsWakeful, everything}
 use Rattle.ax_text.specs.Jobs.{Job, Group, group_of, text_for}
 use Rattle.ax_text.proofs.Keeps.{by_cases}
 use Rattle.ax_text.proofs.Steps.{Blank, BlankBut, Goes, IsStep, IsGiven, after_talk, begin_ok, given, serve_ok, upd_at, upd_off, without_keeps}
 use Rattle.ax_text.proofs.Accepting.{accepted_fits}
 use Rattle.ax_text.proofs.Behind.{Same, behind, same_left}
+use Rattle.ax_text.specs.Silent.{silent as silent_talk, unanswered}
 use Rattle.ax_machine.specs.KeySync.{Said, ran}
 use Rattle.ax_execution.specs.Accepted.{AreAccepted}
 use Rattle.ax_execution.specs.Contexts.{Running}
 use Rattle.ax_execution.specs.Rest.{rest_running}
-use Rattle.ax_execution.specs.Turns.{timed, left_by, no_answers, silent_talk, begins}
+use Rattle.ax_execution.specs.Turns.{timed, left_by, begins}
 use Rattle.ax_execution.proofs.Handles.{Handles, goes_in, silenced}
-use Rattle.ax_execution.proofs.Wakeful.{IsWakeful, begin_wakes, give_wakes, slot_waits, waits_for}
+use Rattle.ax_text.proofs.Wakeful.{begin_wakes, give_wakes, slot_waits, waits_for}
 use Rattle.ax_execution.proofs.Counts.{serve_counts, give_counts}
 
 some_none : {A : Type 0} {x : A} → Some x ≡ None → ⊥
@@ -98,18 +99,18 @@ unfolding Goes after_talk
 step_of f t talk a = begin_ok f (Rest t ∷ []) everything [] (accepted_fits t a, tt) talk
 
 begin_left : (f : Facts) (t : Text) (talk : Talk) (cells : Cells) → is_accepted t ≡ true
-    → left f no_answers (begin f (Rest t ∷ []) [] talk).control (record { talk = (begin f (Rest t ∷ []) [] talk).talk; cells = cells; served = 0 }) ≡ run f t (record { talk = talk; cells = cells; served = 0 })
+    → left f unanswered (begin f (Rest t ∷ []) [] talk).control (record { talk = (begin f (Rest t ∷ []) [] talk).talk; cells = cells; served = 0 }) ≡ run f t (record { talk = talk; cells = cells; served = 0 })
 unfolding Blank after_talk
-begin_left f t talk cells a = (step_of f t talk a).law no_answers (λ s h. refl) cells 0
+begin_left f t talk cells a = (step_of f t talk a).law unanswered (λ s h. refl) cells 0
 
-begin_good : (p : Program) → AreAccepted p → (j : Job) → Good (left_by (begins p j) no_answers [] 0)
+begin_good : (p : Program) → AreAccepted p → (j : Job) → Good (left_by (begins p j) unanswered [] 0)
 begin_good p a j =
     let it = step_of j.facts (text_for p j.handler) (silent_talk (λ i. pos 0)) (text_accepted p a j.handler) in
     record { fits = it.fits; split = it.split; blank = λ s h. refl; wakes = begin_wakes j.facts (Rest (text_for p j.handler) ∷ []) [] (silent_talk (λ i. pos 0)) }
 
-begin_law : (p : Program) → AreAccepted p → (j : Job) (s : Said) → rest_running j (left_by (begins p j) no_answers [] 0) (timed (begins p j) s) ≡ ran p j s.state s
+begin_law : (p : Program) → AreAccepted p → (j : Job) (s : Said) → rest_running j (left_by (begins p j) unanswered [] 0) (timed (begins p j) s) ≡ ran p j s.state s
 begin_law p a j s =
-    resumed j s.state.times s.groups (left j.facts no_answers (begins p j).control) (λ o w. left_behind j.facts no_answers (begins p j).control [] o 0 w)
+    resumed j s.state.times s.groups (left j.facts unanswered (begins p j).control) (λ o w. left_behind j.facts unanswered (begins p j).control [] o 0 w)
     (begins p j).talk.names (begins p j).talk.lines (begins p j).talk.ops s.state.cells 0
     ∙ ap (said_with j s.state.times s.groups) (begin_left j.facts (text_for p j.handler) (silent_talk (λ i. pos 0)) s.state.cells (text_accepted p a j.handler))
 

@@ -9,10 +9,11 @@ use Rattle.ax_text.specs.Programs.{Program}
 use Rattle.ax_text.specs.Run.{World}
 use Rattle.ax_text.specs.Controls.{left, request_at, is_done, slots}
 use Rattle.ax_text.specs.Jobs.{Job}
+use Rattle.ax_text.specs.Silent.{unanswered}
 use Rattle.ax_machine.specs.KeySync.{Said, ran}
 use Rattle.ax_execution.specs.Contexts.{Running}
 use Rattle.ax_execution.specs.Rest.{rest_running, served_at}
-use Rattle.ax_execution.specs.Turns.{timed, left_by, no_answers, begins, answered, applied, gives}
+use Rattle.ax_execution.specs.Turns.{timed, left_by, begins, answered, applied, gives}
 
 -- the world in which a handler goes on, on these states
 abbrev pub goes_in : Running → Cells → World
@@ -27,11 +28,11 @@ abbrev pub further : List (List ℤ) → ℕ → World → World
 further lines n w = record { talk = record { names = w.talk.names; lines = lines ++ w.talk.lines; ops = w.talk.ops }; cells = w.cells; served = n + w.served }
 
 pub record Handles (p : Program) (Good : Running → Type 0) : Type 0 where
-  pub begin_good : (j : Job) → Good (left_by (begins p j) no_answers [] 0)
+  pub begin_good : (j : Job) → Good (left_by (begins p j) unanswered [] 0)
   pub serve_good : (r : Running) (slot : ℕ) (q : Request) (a : Answer) → Good r → request_at r.control slot ≡ Some q → r.answers slot ≡ None → Good (answered r slot a)
   pub give_good : (j : Job) (r : Running) (slot : ℕ) (a : Answer) → Good r → r.answers slot ≡ Some a
       → Good (left_by (gives j r slot a) (upd r.answers slot None) r.lines r.served)
-  pub begin_law : (j : Job) (s : Said) → rest_running j (left_by (begins p j) no_answers [] 0) (timed (begins p j) s) ≡ ran p j s.state s
+  pub begin_law : (j : Job) (s : Said) → rest_running j (left_by (begins p j) unanswered [] 0) (timed (begins p j) s) ≡ ran p j s.state s
   pub serve_law : (j : Job) (r : Running) (slot : ℕ) (q : Request) (s : Said) → Good r → request_at r.control slot ≡ Some q → r.answers slot ≡ None
       → rest_running j (answered r slot (answer_of q s.state.cells)) (applied q s) ≡ rest_running j r s
   pub give_law : (j : Job) (r : Running) (slot : ℕ) (a : Answer) (s : Said) → Good r → r.answers slot ≡ Some a

@@ -8,11 +8,12 @@ use Rattle.ax_text.specs.Exprs.{Facts}
 use Rattle.ax_text.specs.Programs.{Program}
 use Rattle.ax_text.specs.Controls.{Control, Done, Wait, Arms, is_done, request_at}
 use Rattle.ax_text.specs.Jobs.{Job}
+use Rattle.ax_text.specs.Silent.{unanswered}
 use Rattle.ax_machine.specs.KeySync.{Said, fire_first, key_fires}
 use Rattle.ax_execution.specs.Contexts.{Running, running_group, Stage, Unbegun, Begun, Context, Waiting, Row, Mark, Part, is_due, may_fire}
 use Rattle.ax_execution.specs.Rest.{rest_running, rest_stage, rest_owner, rest_item, rest_items, settled}
 use Rattle.ax_execution.proofs.Handles.{Handles}
-use Rattle.ax_execution.specs.Turns.{handed, timed, closed_with, left_by, called_back, no_answers, begins, start_stage, start_owner, start, serve_request, gives, give_answer, fire_due, fire_front, fire, admit_at, admit, mark_at, mark}
+use Rattle.ax_execution.specs.Turns.{handed, timed, closed_with, left_by, called_back, begins, start_stage, start_owner, start, serve_request, gives, give_answer, fire_due, fire_front, fire, admit_at, admit, mark_at, mark}
 
 module _ (p : Program) (Good : Running → Type 0) (H : Handles p Good) where
   -- a mark that doesn't fire does nothing
@@ -82,7 +83,7 @@ module _ (p : Program) (Good : Running → Type 0) (H : Handles p Good) where
 
   start_kept : (c : Context) (st : Stage) (part : Part) → settled p part ≡ rest_items p part.waiting (rest_stage p c.job st part.said)
       → settled p (start_stage p c st part) ≡ rest_items p part.waiting (rest_stage p c.job st part.said)
-  start_kept c Unbegun part h = called_back_kept c (left_by (begins p c.job) no_answers [] 0) part.waiting (timed (begins p c.job) part.said) ∙ ap (rest_items p part.waiting) (H.begin_law c.job part.said)
+  start_kept c Unbegun part h = called_back_kept c (left_by (begins p c.job) unanswered [] 0) part.waiting (timed (begins p c.job) part.said) ∙ ap (rest_items p part.waiting) (H.begin_law c.job part.said)
   start_kept c (Begun r) part h = h
 
   pub serve_kept : (c : Context) (r : Running) (slot : ℕ) (o : Option Request) (part : Part) → request_at r.control slot ≡ o → r.answers slot ≡ None → Good r

@@ -23,10 +23,11 @@ use Rattle.ax_execution.specs.Origins.{Origin, IsOrigin}
 use Rattle.ax_execution.proofs.Projected.{rises_from}
 use Rattle.ax_text.specs.Controls.{is_done, request_at}
 use Rattle.ax_text.specs.Jobs.{firing_job}
+use Rattle.ax_text.specs.Silent.{unanswered}
 use Rattle.ax_execution.specs.Groups.{row_facts}
 use Rattle.ax_machine.specs.KeySync.{Said}
 use Rattle.ax_execution.specs.Contexts.{Running, running_group, Stage, Unbegun, Begun, Context, new_context, Waiting, Row, Mark, Part, contexts_in, owners, rows_in, is_due, may_fire, is_idle_with, is_idle}
-use Rattle.ax_execution.specs.Turns.{handed, timed, closed_with, left_by, staged, called_back, no_answers, begins, start_stage, start_owner, start, serve_request, serve_stage, serve_owner, serve, gives, give_answer, deliver_stage, deliver_owner, deliver, fire_due, fire_front, fire, admit_at, admit, mark_at, mark, Effects, start_effects, deliver_effects}
+use Rattle.ax_execution.specs.Turns.{handed, timed, closed_with, left_by, staged, called_back, begins, start_stage, start_owner, start, serve_request, serve_stage, serve_owner, serve, gives, give_answer, deliver_stage, deliver_owner, deliver, fire_due, fire_front, fire, admit_at, admit, mark_at, mark, Effects, start_effects, deliver_effects}
 use Rattle.ax_execution.specs.Machine.{ByWatermark, ByBarrier, Closed, Machine, Happening, Admit, Close, Fire, Start, Serve, Deliver, Send, Rules, part_at, must_fire, goes_on, calls_back, send_first, happens, in_flight, after_all, taken, machine_from, machine_of, IsAtRest, IsWork}
 use Rattle.ax_execution.specs.Allowed.{NoneIsIdle, NumbersOwner, NotIn, IsNew, StageUnbegun, StageAsks, StageHas, OfOwner, MayFireNow, Allowed, IsRun}
 use Rattle.ax_execution.proofs.Handles.{Handles}
@@ -96,7 +97,7 @@ back_leaves k c st r is s t = record {
 
 start_at : (p : Program) (k : Key) (c : Context) (st : Stage) (is : List Waiting) (s : Said) → StageUnbegun st
     → Leaves (must_fire k (start_stage p c st (part_of (Some (staged c st)) is s))) k (part_of (Some (staged c st)) is s) (start_stage p c st (part_of (Some (staged c st)) is s))
-start_at p k c Unbegun is s h = back_leaves k c Unbegun (left_by (begins p c.job) no_answers [] 0) is s (timed (begins p c.job) s)
+start_at p k c Unbegun is s h = back_leaves k c Unbegun (left_by (begins p c.job) unanswered [] 0) is s (timed (begins p c.job) s)
 start_at p k c (Begun r) is s h = absurd h
 
 start_of : (p : Program) (k : Key) (o : Option Context) (is : List Waiting) (s : Said) → OfOwner StageUnbegun o
@@ -127,10 +128,10 @@ deliver_leaves k slot q h = deliver_of k slot q.owner q.waiting q.said h
 
 -- a request is served
 
-record StaysOwned (must : Option Key) (k : Key) (a b : Part) : Type 0 where
-  awake : IsAwake b.owner
-  ordered : IsOrdered must k b.owner b.waiting b.said.state.times
-  count : contexts_in b ≤ contexts_in a
+pub record StaysOwned (must : Option Key) (k : Key) (a b : Part) : Type 0 where
+  pub awake : IsAwake b.owner
+  pub ordered : IsOrdered must k b.owner b.waiting b.said.state.times
+  pub count : contexts_in b ≤ contexts_in a
 
 serve_with : (must : Option Key) (k : Key) (c : Context) (r : Running) (slot : ℕ) (o : Option Request) (is : List Waiting) (s : Said) → is_done r.control ≡ false
     → StaysOwned must k (part_of (Some (staged c (Begun r))) is s) (serve_request c r slot o (part_of (Some (staged c (Begun r))) is s))
@@ -338,7 +339,7 @@ module _ (r : Rules) (m : Machine) (o : IsOrderly r m) (rises : IsStrictlySorted
       room j false i h = absurd (none_some h)
 
   -- Serve
-  serve_orderly : (k : Key) (q : Part) → m.must ≡ None → list_any (bytes_eq k) m.keys ≡ true → StaysOwned m.must k (m.parts k) q → IsOrderly r (goes_on k m.must [] q m)
+  pub serve_orderly : (k : Key) (q : Part) → m.must ≡ None → list_any (bytes_eq k) m.keys ≡ true → StaysOwned m.must k (m.parts k) q → IsOrderly r (goes_on k m.must [] q m)
   serve_orderly k q none there l = record {
     sound = record {
       awake = at_part (λ (j : Key) (x : Part). IsAwake x.owner) m.parts k q l.awake (λ j x. o.sound.awake j);

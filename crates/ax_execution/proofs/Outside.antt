@@ -10,7 +10,7 @@ use Rattle.ax_text.specs.declared.vocabulary.Handler.{Handler}
 use Rattle.ax_text.specs.declared.vocabulary.Handler.TheVariants as handler
 use Rattle.ax_text.specs.Prints.{has}
 use Rattle.ax_execution.proofs.Handles.{Handles}
-use Rattle.ax_execution.proofs.Wakeful.{slot_waits}
+use Rattle.ax_text.proofs.Wakeful.{slot_waits}
 use Rattle.ax_machine.specs.Entries.{Key}
 use Rattle.ax_execution.specs.Contexts.{Running, Stage, Unbegun, Begun, Context, Waiting, Row, Mark, contexts_in, owners, rows_in, is_idle_with}
 use Rattle.ax_execution.specs.Machine.{ByWatermark, ByBarrier, Closed, Machine, Happening, Admit, Close, Fire, Start, Serve, Deliver, Send, Rules, send_first, happens, sends_first, outcome, in_flight, IsAtRest}

@@ -262,3 +262,8 @@ module _ (g : ℕ) (p : Program) (Good : Running → Type 0) (H : Handles p Good
   -- events that pass the test are a run
   pub is_run : (r : Rules) (es : List Happening) → runs r g p es (machine_from from) ≡ true → IsRun r g p es (machine_from from)
   is_run r es h = runs_from r es (machine_from from) [] (start_alone g p Good H from fits) (start_orderly r p from fits) h
+
+-- and a run passes it
+pub run_passes : (r : Rules) (g : ℕ) (p : Program) (es : List Happening) (m : Machine) → IsRun r g p es m → runs r g p es m ≡ true
+run_passes r g p [] m h = refl
+run_passes r g p (e ∷ es) m h = and_join (allowed_so r m e h.0) (run_passes r g p es (happens g p e m) h.1)

@@ -13,11 +13,12 @@ use Rattle.ax_text.specs.Run.{World}
 use Rattle.ax_machine.specs.Sync.{without_least}
 use Rattle.ax_text.specs.Controls.{left, is_done, request_at}
 use Rattle.ax_text.specs.Jobs.{Job, Group, firing_job, job_run, group_of, lines_in}
+use Rattle.ax_text.specs.Silent.{unanswered}
 use Rattle.ax_execution.specs.Groups.{on_row, unsaid}
 use Rattle.ax_machine.specs.KeySync.{Said, ran, fire_first, key_fires}
 use Rattle.ax_execution.specs.Contexts.{Running, running_group, Stage, Unbegun, Begun, stage_group, Context, new_context, Waiting, Row, Mark, Part, owner_groups, part_lines, is_due, may_fire}
 use Rattle.ax_execution.specs.Rest.{rest_running, rest_stage, rest_owner, rest_items, settled}
-use Rattle.ax_execution.specs.Turns.{handed, timed, closed_with, left_by, staged, called_back, no_answers, begins, start_stage, start_owner, start, answered, applied, serve_request, serve_stage, serve_owner, serve, gives, give_answer, deliver_stage, deliver_owner, deliver, fire_due, fire_front, fire, admit_at, admit, mark_at, mark, stage_starts, owner_starts, start_effects, answer_gives, stage_gives, owner_gives, deliver_effects}
+use Rattle.ax_execution.specs.Turns.{handed, timed, closed_with, left_by, staged, called_back, begins, start_stage, start_owner, start, answered, applied, serve_request, serve_stage, serve_owner, serve, gives, give_answer, deliver_stage, deliver_owner, deliver, fire_due, fire_front, fire, admit_at, admit, mark_at, mark, stage_starts, owner_starts, start_effects, answer_gives, stage_gives, owner_gives, deliver_effects}
 use Rattle.ax_execution.specs.Allowed.{StageAsks, OfOwner, OwnedLater, WaitLater}
 use Rattle.ax_machine.proofs.KeyLemmas.{lines_in-append}
 use Rattle.ax_execution.proofs.Handles.{Handles, goes_in, silenced}
@@ -324,7 +325,7 @@ module _ (p : Program) (Good : Running → Type 0) (H : Handles p Good) where
       → Goes p Good (stage_starts p j st).lines (part_of (Some (context_of n f j st)) is s) (start_stage p (context_of n f j st) st (part_of (Some (context_of n f j st)) is s))
   unfolding OwnerGood
   start_at n f j Unbegun is s g =
-      let r : Running = left_by (begins p j) no_answers [] 0 in
+      let r : Running = left_by (begins p j) unanswered [] 0 in
       back_goes n f j Unbegun r is s (timed (begins p j) s) (begins p j).talk.lines (H.begin_law j s) (H.begin_good j)
       (open_grows s.groups (running_group j r)) (group_writes s.groups (unsaid j) (running_group j r) (begins p j).talk.lines refl)
   start_at n f j (Begun r) is s g = same_goes (part_of (Some (context_of n f j (Begun r))) is s) g

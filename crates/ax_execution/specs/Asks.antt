@@ -1,5 +1,5 @@
 -- The requests of a key that wait, and what an event adds to them.
-use Rattle.std.specs.Prelude.{◌≡◌, ℕ, ◌<◌, List, [], ◌∷◌, map, false, if◌then◌else◌, Option, Some, None}
+use Rattle.std.specs.Prelude.{◌≡◌, ℕ, List, [], ◌∷◌, map, false, if◌then◌else◌, Option, Some, None}
 use Rattle.std.specs.Str.{bytes_eq}
 use Rattle.ax_text.specs.Prints.{has}
 use Rattle.ax_text.specs.Controls.{Ask', waiting, replaced, without}
@@ -25,15 +25,6 @@ waits_behind k (Start j) asks before = if bytes_eq j k then asks else before
 waits_behind k (Serve j slot) asks before = before
 waits_behind k (Deliver j slot) asks before = if bytes_eq j k then replaced slot asks before else before
 waits_behind k Send asks before = before
-
--- each slot is above this one, and the slots rise
-abbrev pub AreAbove : ℕ → List Ask' → Type 0
-AreAbove s [] = Unit {0}
-AreAbove s (a ∷ as') = (s < a.slot) × AreAbove s as'
-
-abbrev pub SlotsRise : List Ask' → Type 0
-SlotsRise [] = Unit {0}
-SlotsRise (a ∷ as') = AreAbove a.slot as' × SlotsRise as'
 
 -- no slot is one of these
 abbrev pub AreOutside : List ℕ → List Ask' → Type 0

@@ -6,7 +6,7 @@ use Rattle.ax_execution.specs.Sums.{total}
 use Rattle.ax_execution.specs.Contexts.{Context, Waiting, Row, Mark, is_due, may_fire}
 use Rattle.ax_execution.specs.KeyControls.{KeyControl}
 use Rattle.ax_execution.specs.Machine.{ByWatermark, ByBarrier, Happening, Admit, Close, Fire, Start, Serve, Deliver, Send}
-use Rattle.ax_execution.specs.Counts.{one_at, owner_of_epoch, counted}
+use Rattle.ax_execution.specs.Counts.{one_at, owner_of_epoch, owns, counted}
 use Rattle.ax_execution.specs.MachineControls.{MachineControl, must_fire_on}
 
 -- one where a mark that comes stays: where the key isn't free, or a timer is due
@@ -66,3 +66,13 @@ serves k (Start j) = false
 serves k (Serve j slot) = bytes_eq j k
 serves k (Deliver j slot) = false
 serves k Send = false
+
+-- whether a callback of a context with this number runs
+abbrev pub calls_on : ℕ → Happening → MachineControl → Bool
+calls_on n (Admit i k time values) m = false
+calls_on n (Close c) m = false
+calls_on n (Fire i k) m = false
+calls_on n (Start k) m = owns n (m.controls k).owner
+calls_on n (Serve k slot) m = false
+calls_on n (Deliver k slot) m = owns n (m.controls k).owner
+calls_on n Send m = false

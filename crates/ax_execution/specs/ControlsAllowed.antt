@@ -114,3 +114,9 @@ pub record IsFreeOn (c : KeyControl) : Type 0 where
 pub record HoldBusy (ks : List Key) (m : MachineControl) : Type 0 where
   pub rise : IsStrictlySortedBy key_cmp ks
   pub others : (k : Key) → list_any (bytes_eq k) ks ≡ false → IsFreeOn (m.controls k)
+
+-- rising keys, and each other key was never touched: no owner, nothing that waits, no timer
+pub record AreAllKeys (m : MachineControl) : Type 0 where
+  pub rise : IsStrictlySortedBy key_cmp m.keys
+  pub others : (k : Key) → list_any (bytes_eq k) m.keys ≡ false → IsFreeOn (m.controls k)
+  pub times : (k : Key) → list_any (bytes_eq k) m.keys ≡ false → (m.controls k).times ≡ []

@@ -16,5 +16,7 @@ pub mod Allowed
 pub mod Tests
 pub mod ControlsAllowed
 pub mod ControlChanges
+pub mod ControlOrder
 pub mod Rows
 pub mod Reached
+pub mod OwedChanges

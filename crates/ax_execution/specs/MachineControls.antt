@@ -1,9 +1,10 @@
 -- What of the machine a controller knows: the control of each key, and neither cells nor what was said or written.
-use Rattle.std.specs.Prelude.{ℕ, suc, ◌+◌, ℤ, List, [], ◌∷◌, ◌++◌, Bool, false, if◌then◌else◌, Option, Some, None}
+use Rattle.std.specs.Prelude.{ℕ, suc, ◌+◌, ℤ, List, [], ◌∷◌, ◌++◌, Bool, false, if◌then◌else◌, Option, Some, None, length}
 use Rattle.std.specs.Str.{bytes_eq}
 use Rattle.std.specs.BTreeSet.{insert_key}
 use Rattle.ax_keys.specs.Keys.{key_cmp}
 use Rattle.ax_text.specs.declared.vocabulary.Answer.{Answer}
+use Rattle.ax_text.specs.Cells.{Cells}
 use Rattle.ax_text.specs.Programs.{Program}
 use Rattle.ax_text.specs.Controls.{Ask'}
 use Rattle.ax_machine.specs.Entries.{Key, Entry, says}
@@ -12,6 +13,7 @@ use Rattle.ax_machine.specs.Firings.{most_firings}
 use Rattle.ax_execution.specs.Sums.{total}
 use Rattle.ax_execution.specs.Groups.{row_facts}
 use Rattle.ax_execution.specs.Origins.{Origin}
+use Rattle.ax_execution.specs.Rest.{part_work}
 use Rattle.ax_execution.specs.Turns.{Effects, owner_starts, owner_gives}
 use Rattle.ax_execution.specs.KeyControls.{KeyControl, control_of, owner_answer, keeps_answer}
 use Rattle.ax_execution.specs.ControlTurns.{is_idle_on, contexts_on, start_on, deliver_on, fire_on, admit_on, mark_on}
@@ -104,7 +106,7 @@ happens_on p (Serve k slot) answer m = control_goes_on k m.must (keeps_answer sl
 happens_on p (Deliver k slot) answer m = calls_back_on k (deliver_on slot (m.controls k)) m
 happens_on p Send answer m = send_first_on m.unsent m
 
--- the answer that the cells give to the request that an event serves
+-- the answer that the cells give, where an event serves a request
 abbrev pub answer_of_event : Happening → Machine → Option Answer
 answer_of_event (Admit n k time values) m = None
 answer_of_event (Close c) m = None
@@ -170,3 +172,11 @@ control_references n c = owner_references n c.owner + rows_numbered n c.waiting
 
 abbrev pub reference_count_on : ℕ → MachineControl → ℕ
 reference_count_on n m = total m.keys (λ k. control_references n (m.controls k))
+
+-- the work left of a key with this control and these cells
+abbrev pub control_work : Program → KeyControl → Cells → ℕ
+control_work p c cells = part_work p (record { owner = c.owner; waiting = c.waiting; said = record { state = record { cells = cells; times = c.times }; groups = [] } })
+
+-- the work left, where the keys have these cells: that of each key, and one for each marker to be sent
+abbrev pub work_on : Program → (Key → Cells) → MachineControl → ℕ
+work_on p cells m = total m.keys (λ k. control_work p (m.controls k) (cells k)) + length m.unsent

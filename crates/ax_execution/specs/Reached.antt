@@ -5,6 +5,7 @@ use Rattle.std.specs.List.{list_any}
 use Rattle.std.specs.List.Sorted.{IsStrictlySortedBy}
 use Rattle.std.specs.Ordering.{int_cmp}
 use Rattle.ax_keys.specs.Keys.{key_cmp}
+use Rattle.ax_text.specs.declared.vocabulary.Handler.TheVariants as handler
 use Rattle.ax_text.specs.Prints.{has}
 use Rattle.ax_text.specs.Programs.{Program}
 use Rattle.ax_text.specs.Controls.{is_done, slots}
@@ -52,6 +53,18 @@ abbrev pub Follow : ℕ → List Closed → ℕ → Type 0
 Follow e [] current = e ≡ current
 Follow e (c ∷ cs) current = (c.epoch ≡ e) × Follow (suc e) cs current
 
+-- marks are of closed epochs
+abbrev pub MarksBelow : ℕ → List Waiting → Type 0
+MarksBelow e [] = Unit {0}
+MarksBelow e (Row n f facts ∷ is) = MarksBelow e is
+MarksBelow e (Mark f w more ∷ is) = (f < e) × MarksBelow e is
+
+-- the mark of a firing stays in front of its key
+abbrev pub MarkInFront : ℕ → List Waiting → Type 0
+MarkInFront e [] = ⊥
+MarkInFront e (Row n f facts ∷ is) = ⊥
+MarkInFront e (Mark f w more ∷ is) = f ≡ e
+
 -- the references of the owner of a key
 abbrev pub owed_to : Option Context → ℕ
 owed_to None = 0
@@ -61,7 +74,8 @@ owed_to (Some c) = references c.stage
 abbrev pub owed_in : MachineControl → ℕ
 owed_in m = total m.keys (λ k. owed_to (m.controls k).owner)
 
-pub record IsOrderly (r : Rules) (p : Program) (m : MachineControl) : Type 0 where
+-- what holds of each control that is reached
+pub record IsOrderly (r : Rules) (m : MachineControl) : Type 0 where
   pub limit : in_flight_on m ≤ r.limit
   pub rise : IsStrictlySortedBy key_cmp m.keys
   pub absent : (k : Key) → list_any (bytes_eq k) m.keys ≡ false → IsUntouched (m.controls k)
@@ -74,4 +88,7 @@ pub record IsOrderly (r : Rules) (p : Program) (m : MachineControl) : Type 0 whe
   pub answers : (k : Key) (c : Context) (running : Running) (slot : ℕ) → (m.controls k).owner ≡ Some c → c.stage ≡ Begun running → has slot (slots running.control) ≡ false → running.answers slot ≡ None
   pub owners : (k : Key) → OwnerOpen m (m.controls k).owner
   pub waiting : (k : Key) → WaitingOpen m (m.controls k).waiting
+  pub marks : (k : Key) → MarksBelow m.epoch (m.controls k).waiting
+  pub firings : (k : Key) (c : Context) → (m.controls k).owner ≡ Some c → c.job.handler ≡ handler.Timer → MarkInFront c.epoch (m.controls k).waiting
+  pub unsent : length m.unsent ≤ m.epoch
   pub oldest : (e : ℕ) → e + length m.unsent ≡ m.epoch → Follow e m.unsent m.epoch

@@ -5,6 +5,8 @@ ghost use Rattle.std.specs.List.{list_any};
 ghost use Rattle.std.specs.List.Sorted.{IsStrictlySortedBy};
 ghost use Rattle.ax_keys.specs.Keys.{key_cmp};
 ghost use Rattle.ax_text.specs.Exprs.{Facts};
+ghost use Rattle.ax_text.specs.KeyStates.{KeyState};
+ghost use Rattle.ax_text.specs.Jobs.{Job};
 ghost use Rattle.ax_text.specs.Programs.{Program};
 ghost use Rattle.ax_machine.specs.Entries.{Key, Watermark, lines_of};
 ghost use Rattle.ax_machine.specs.Entries as entry;
@@ -20,12 +22,13 @@ ghost use Rattle.ax_execution.specs.Contexts.{Running, Unbegun, Begun, Context, 
 ghost use Rattle.ax_execution.specs.KeyControls.{control_of, bare, SeesControl, owner_answer, keeps_answer};
 ghost use Rattle.ax_execution.specs.Origins.{Origin, IsOrigin, first, sync_from, key_sync_from, IsProjectedFrom};
 ghost use Rattle.ax_execution.specs.Turns.{admit, mark, fire, start, serve, deliver, start_effects, deliver_effects};
-ghost use Rattle.ax_execution.specs.Rest.{settled, silent_part, owed, part_work};
+ghost use Rattle.ax_execution.specs.Rest.{rest_world, settled, silent_part, owed, part_work};
 ghost use Rattle.ax_execution.specs.Machine.{Machine, Happening, Start, Serve, Deliver, Rules, happens, outcome, taken, machine_from, machine_of, in_flight, work, IsAtRest, IsWork};
 ghost use Rattle.ax_execution.specs.Allowed.{NoneIsIdle, IsFinished, Allowed, IsRun};
 ghost use Rattle.ax_execution.specs.Counts.{AreDistinct, one_if_gone, references, reference_count, epoch_count, number_count, made, made_as, calls, counted};
 ghost use Rattle.ax_execution.specs.Merges.{merge, firings_at};
-ghost use Rattle.ax_execution.specs.Asks.{owner_waits, waits_behind, SlotsRise, AreOutside, slots_beside};
+ghost use Rattle.ax_text.specs.Underway.{SlotsRise};
+ghost use Rattle.ax_execution.specs.Asks.{owner_waits, waits_behind, AreOutside, slots_beside};
 ghost use Rattle.ax_execution.specs.Tests.{allowed, runs};
 
 /// Before the first event is an origin, and the plain threads from there are the plain threads.
@@ -152,6 +155,17 @@ pub fn asks_are_what_waits()
         → AreOutside (slots_beside slot (owner_waits ((machine_of g p from es).parts k).owner)) (outcome g p (Deliver k slot) (machine_of g p from es)).asks }
 {}
 
+/// As many requests wait behind a start as it asks, and behind a delivery as many as before, those that it asks, and one fewer. A
+/// handler comes to no fewer requests served than were served so far.
+pub fn requests_are_counted()
+    ensures started { (r : Rules) (g : ℕ) (p : Program) (from : Origin) (es : List Happening) (k : Key) → AreAccepted p → IsOrigin p from → IsRun r g p es (machine_from from) → Allowed r (Start k) (machine_of g p from es)
+        → length (owner_waits ((happens g p (Start k) (machine_of g p from es)).parts k).owner) ≡ length (outcome g p (Start k) (machine_of g p from es)).asks }
+    ensures delivered { (r : Rules) (g : ℕ) (p : Program) (from : Origin) (es : List Happening) (k : Key) (slot : ℕ) → AreAccepted p → IsOrigin p from → IsRun r g p es (machine_from from) → Allowed r (Deliver k slot) (machine_of g p from es)
+        → length (owner_waits ((happens g p (Deliver k slot) (machine_of g p from es)).parts k).owner) + 1
+        ≡ length (owner_waits ((machine_of g p from es).parts k).owner) + length (outcome g p (Deliver k slot) (machine_of g p from es)).asks }
+    ensures served { (p : Program) (job : Job) (running : Running) (state : KeyState) → AreAccepted p → running.served ≤ (rest_world job running state).served }
+{}
+
 /// With room for one context the machine is never stuck: where no event is allowed that takes nothing of the input, it is at rest.
 pub fn never_stuck()
     ensures { (r : Rules) (g : ℕ) (p : Program) (from : Origin) (es : List Happening) → AreAccepted p → IsOrigin p from → IsRun r g p es (machine_from from) → 0 < r.limit
@@ -195,6 +209,7 @@ pub fn allowed_is_decided()
         → allowed r e (machine_of g p from es) ≡ true → Allowed r e (machine_of g p from es) }
     ensures run { (r : Rules) (g : ℕ) (p : Program) (from : Origin) (es : List Happening) → AreAccepted p → IsOrigin p from
         → runs r g p es (machine_from from) ≡ true → IsRun r g p es (machine_from from) }
+    ensures is_passed { (r : Rules) (g : ℕ) (p : Program) (es : List Happening) (m : Machine) → IsRun r g p es m → runs r g p es m ≡ true }
 {}
 
 /// Each event of a key but Serve looks at its control alone, at no cell and at nothing that was said; so do the lines and the

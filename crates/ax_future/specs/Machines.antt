@@ -16,7 +16,11 @@ control_of p m = control_in p m.node
 
 -- the numbers of its local names
 abbrev pub names_of : Machine → Names
-names_of m = names_at m.names.items
+names_of m = names_at m.going.names.items
+
+-- what its last callback said
+abbrev pub said_by : Machine → CodeTurn
+said_by m = m.going.said
 
 -- what a callback leaves
 abbrev pub left_by : Program → Machine → CodeTurn → Turn

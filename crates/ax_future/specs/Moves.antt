@@ -64,4 +64,4 @@ above (move.Split one two) = suc (max one two)
 
 -- what a callback leaves
 abbrev pub turn_of : Program → Going → Node → Turn
-turn_of p g node = record { control = control_in p node; talk = talk_of g; asks = asks_in g.asks }
+turn_of p g node = record { control = control_in p node; talk = talk_of g; asks = asks_in g.said.asks }

@@ -1,16 +1,17 @@
 //! How a handler takes an answer.
-ghost use Rattle.std.specs.Prelude.{◌≡◌, ◌≤◌, ◌+◌, ◌++◌, [], length, map, max, IfOk, OnOk};
+ghost use Rattle.std.specs.Prelude.{ℕ, List, ◌≡◌, ◌≤◌, ◌+◌, ◌++◌, [], length, map, max, IfOk, OnOk};
+ghost use Rattle.ax_text.specs.Exprs.{Facts as AnyFacts};
 ghost use Rattle.ax_text.specs.Run.{with_names, take_in, turns_of, number_or};
 ghost use Rattle.ax_text.specs.Prints.{has};
 ghost use Rattle.ax_text.specs.Controls.{slots, also, begin, joined, resume, give_in, without};
 ghost use Rattle.ax_lang.specs.declared.program.Program.{Program as AnyProgram};
 ghost use Rattle.ax_future.specs.Sizes.{cursor_width, next_width, control_width};
 ghost use Rattle.ax_future.specs.Nodes.{cursor_in, next_in, after_in, control_in};
-ghost use Rattle.ax_future.specs.Talks.{facts_in, talk_of, asks_in, turn_pair};
+ghost use Rattle.ax_future.specs.Talks.{known_in, talk_of, asks_in, turn_pair};
 ghost use Rattle.ax_future.specs.Moves.{turn_of};
 
 use crate::begin::{are_done, begin};
-use crate::callback::Facts;
+use crate::callback::Known;
 use crate::going::{Going, assign};
 use crate::moves::put;
 use crate::node::{Assign, Cursor, Frame, Next, Node};
@@ -34,7 +35,7 @@ fn number_or(answer: &Answer, missing: i64) -> i64
 // A local name takes an answer.
 fn take_in(going: &mut Going, to: Assign, answer: &Answer) -> Result<(), NoMemory>
     ensures talk { OnOk result (talk_of going.new ≡ with_names (take_in (after_in to) answer.now (talk_of going.old).names) (talk_of going.old)) }
-    ensures asks { going.new.asks ≡ going.old.asks }
+    ensures asks { going.new.said.asks ≡ going.old.said.asks }
 {
     match to {
         Assign::Name { name, missing } => {
@@ -70,11 +71,42 @@ fn turns_of(alloc: Global, answer: Answer) -> Result<Pairs, NoMemory>
     }
 }
 
+// An answer goes to what takes it, or its turns go in front of what is still to be run.
+#[inline(always)]
+fn accept(
+    alloc: Global,
+    next: Next,
+    answer: Answer,
+    cursor: &mut Cursor,
+    going: &mut Going,
+) -> Result<(), NoMemory>
+    ensures same { OnOk result ((p : AnyProgram) (f : AnyFacts) (used : List ℕ) → begin f (cursor_in p cursor.new.items) used (talk_of going.new) ≡ resume f (next_in p next) answer (cursor_in p cursor.old.items) used (talk_of going.old)) }
+    ensures narrow { OnOk result ((p : AnyProgram) → cursor_width (cursor_in p cursor.new.items) ≤ max (next_width (next_in p next)) (cursor_width (cursor_in p cursor.old.items))) }
+    ensures asks { going.new.said.asks ≡ going.old.said.asks }
+{
+    match next {
+        Next::Take { assign } => take_in(going, assign, &answer),
+        Next::Begin { turn, body } => {
+            let turns = turns_of(alloc, answer)?;
+            put(
+                cursor,
+                Frame::Turns {
+                    turn,
+                    turns,
+                    at: 0,
+                    body,
+                },
+            )
+        }
+    }
+}
+
 // A wait takes its answer, and the handler goes on.
+#[inline(always)]
 fn resume(
     alloc: Global,
     program: &Program,
-    facts: &Facts,
+    facts: &Known<'_>,
     used: &[u8],
     next: Next,
     answer: Answer,
@@ -82,37 +114,19 @@ fn resume(
     going: &mut Going,
 ) -> Result<Node, NoMemory>
     requires { length used.now + max (next_width (next_in program.now next)) (cursor_width (cursor_in program.now cursor.items)) ≤ 256 }
-    ensures { IfOk result (λ node. also (asks_in going.old.asks) (resume (facts_in facts.now) (next_in program.now next) answer (cursor_in program.now cursor.items) used.now (talk_of going.old)) ≡ turn_of program.now going.new node) }
+    ensures { IfOk result (λ node. also (asks_in going.old.said.asks) (resume (known_in facts.now) (next_in program.now next) answer (cursor_in program.now cursor.items) used.now (talk_of going.old)) ≡ turn_of program.now going.new node) }
 {
-    match next {
-        Next::Take { assign } => {
-            take_in(going, assign, &answer)?;
-            let node = begin(alloc, program, facts, used, cursor, going)?;
-            Ok(node)
-        }
-        Next::Begin { turn, body } => {
-            let turns = turns_of(alloc, answer)?;
-            let mut cursor = cursor;
-            put(
-                &mut cursor,
-                Frame::Turns {
-                    turn,
-                    turns,
-                    at: 0,
-                    body,
-                },
-            )?;
-            let node = begin(alloc, program, facts, used, cursor, going)?;
-            Ok(node)
-        }
-    }
+    let mut cursor = cursor;
+    accept(alloc, next, answer, &mut cursor, going)?;
+    let node = begin(alloc, program, facts, used, cursor, going)?;
+    Ok(node)
 }
 
 // Two arms, and what goes on behind them.
 fn join(
     alloc: Global,
     program: &Program,
-    facts: &Facts,
+    facts: &Known<'_>,
     used: &[u8],
     one: Node,
     two: Node,
@@ -120,7 +134,7 @@ fn join(
     going: &mut Going,
 ) -> Result<Node, NoMemory>
     requires { length used.now + cursor_width (cursor_in program.now cursor.items) ≤ 256 }
-    ensures { IfOk result (λ node. also (asks_in going.old.asks) (joined (control_in program.now one) (control_in program.now two) [] (cursor_in program.now cursor.items) (begin (facts_in facts.now) (cursor_in program.now cursor.items) used.now) (talk_of going.old)) ≡ turn_of program.now going.new node) }
+    ensures { IfOk result (λ node. also (asks_in going.old.said.asks) (joined (control_in program.now one) (control_in program.now two) [] (cursor_in program.now cursor.items) (begin (known_in facts.now) (cursor_in program.now cursor.items) used.now) (talk_of going.old)) ≡ turn_of program.now going.new node) }
 {
     if are_done(&one, &two) {
         let node = begin(alloc, program, facts, used, cursor, going)?;
@@ -167,11 +181,12 @@ pub fn add_others(node: &Node, slot: u8, others: &mut Vec<u8>) -> Result<(), NoM
     }
 }
 
-/// The wait of a slot takes an answer, and the handler goes on.
-pub fn give_in(
+/// The same as `give_in`. A lone wait is found with no look at slots.
+#[inline(always)]
+pub fn give(
     alloc: Global,
     program: &Program,
-    facts: &Facts,
+    facts: &Known<'_>,
     used: &[u8],
     node: Node,
     slot: u8,
@@ -179,7 +194,33 @@ pub fn give_in(
     going: &mut Going,
 ) -> Result<Node, NoMemory>
     requires { length used.now + control_width (control_in program.now node) ≤ 256 }
-    ensures { IfOk result (λ after. also (asks_in going.old.asks) (give_in (facts_in facts.now) (control_in program.now node) slot answer used.now (talk_of going.old)) ≡ turn_of program.now going.new after) }
+    ensures { IfOk result (λ after. also (asks_in going.old.said.asks) (give_in (known_in facts.now) (control_in program.now node) slot answer used.now (talk_of going.old)) ≡ turn_of program.now going.new after) }
+{
+    match node {
+        Node::Wait { next, cursor, .. } => {
+            let after = resume(alloc, program, facts, used, next, answer, cursor, going)?;
+            Ok(after)
+        }
+        other => {
+            let after = give_in(alloc, program, facts, used, other, slot, answer, going)?;
+            Ok(after)
+        }
+    }
+}
+
+/// The wait of a slot takes an answer, and the handler goes on.
+pub fn give_in(
+    alloc: Global,
+    program: &Program,
+    facts: &Known<'_>,
+    used: &[u8],
+    node: Node,
+    slot: u8,
+    answer: Answer,
+    going: &mut Going,
+) -> Result<Node, NoMemory>
+    requires { length used.now + control_width (control_in program.now node) ≤ 256 }
+    ensures { IfOk result (λ after. also (asks_in going.old.said.asks) (give_in (known_in facts.now) (control_in program.now node) slot answer used.now (talk_of going.old)) ≡ turn_of program.now going.new after) }
 {
     match node {
         Node::Done => Ok(Node::Done),

@@ -1,14 +1,15 @@
 //! How a handler begins, and goes on.
 ghost use Rattle.std.specs.Prelude.{◌≡◌, ◌≤◌, ◌<◌, ◌+◌, ◌++◌, ◌∷◌, [], ◌&&◌, length, IfOk, OnOk};
 ghost use Rattle.ax_text.specs.Controls.{Rest, slots, is_done, least_free, waits, also, begin};
+ghost use Rattle.ax_text.specs.Programs.{width};
 ghost use Rattle.ax_lang.specs.declared.program.Program.{Program as AnyProgram};
 ghost use Rattle.ax_lang.specs.Shown.{text_from};
 ghost use Rattle.ax_future.specs.Sizes.{cursor_width};
 ghost use Rattle.ax_future.specs.Nodes.{cursor_in, next_in, control_in, highest};
-ghost use Rattle.ax_future.specs.Talks.{facts_in, talk_of, asks_in};
+ghost use Rattle.ax_future.specs.Talks.{known_in, talk_of, asks_in};
 ghost use Rattle.ax_future.specs.Moves.{turn_of};
 
-use crate::callback::{Ask, Facts};
+use crate::callback::{Ask, Known};
 use crate::fresh::least_free;
 use crate::going::Going;
 use crate::moves::{Move, advance, put};
@@ -22,16 +23,18 @@ use std::alloc::Global;
 /// Goes on from a cursor until each live arm waits for an answer or has ended. `used` are the slots of the other waits.
 ///
 /// Condition: with as many waits as the text may have at once there are at most 256.
+#[cycle(begin)]
+#[inline(always)]
 pub fn begin(
     alloc: Global,
     program: &Program,
-    facts: &Facts,
+    facts: &Known<'_>,
     used: &[u8],
     cursor: Cursor,
     going: &mut Going,
 ) -> Result<Node, NoMemory>
     requires { length used.now + cursor_width (cursor_in program.now cursor.items) ≤ 256 }
-    ensures { IfOk result (λ node. also (asks_in going.old.asks) (begin (facts_in facts.now) (cursor_in program.now cursor.items) used.now (talk_of going.old)) ≡ turn_of program.now going.new node) }
+    ensures { IfOk result (λ node. also (asks_in going.old.said.asks) (begin (known_in facts.now) (cursor_in program.now cursor.items) used.now (talk_of going.old)) ≡ turn_of program.now going.new node) }
 {
     let mut cursor = cursor;
     loop {
@@ -43,9 +46,9 @@ pub fn begin(
             Move::Go => {}
             Move::Wait { request, next } => return wait(alloc, used, request, next, cursor, going),
             Move::Split { one, two } => {
-                let first = begin(alloc, program, facts, used, only(alloc, one)?, going)?;
+                let first = begin_arm(alloc, program, facts, used, one, going)?;
                 let more = with_slots(alloc, used, &first)?;
-                let second = begin(alloc, program, facts, &more, only(alloc, two)?, going)?;
+                let second = begin_arm(alloc, program, facts, &more, two, going)?;
                 if !are_done(&first, &second) {
                     let node = arms(alloc, first, second, cursor)?;
                     return Ok(node);
@@ -55,7 +58,26 @@ pub fn begin(
     }
 }
 
+// The text from a place on, as one arm of a `both`.
+#[cycle(begin)]
+fn begin_arm(
+    alloc: Global,
+    program: &Program,
+    facts: &Known<'_>,
+    used: &[u8],
+    place: usize,
+    going: &mut Going,
+) -> Result<Node, NoMemory>
+    requires { length used.now + width (text_from program.now place) ≤ 256 }
+    ensures { IfOk result (λ node. also (asks_in going.old.said.asks) (begin (known_in facts.now) (Rest (text_from program.now place) ∷ []) used.now (talk_of going.old)) ≡ turn_of program.now going.new node) }
+{
+    let cursor = only_in(Vec::new(alloc), place)?;
+    let node = begin(alloc, program, facts, used, cursor, going)?;
+    Ok(node)
+}
+
 // A request goes out at the least free slot, and its answer is waited for.
+#[inline(always)]
 fn wait(
     alloc: Global,
     used: &[u8],
@@ -65,26 +87,17 @@ fn wait(
     going: &mut Going,
 ) -> Result<Node, NoMemory>
     requires { length used.now < 256 }
-    ensures { IfOk result (λ node. (p : AnyProgram) → also (asks_in going.old.asks) (waits (least_free used.now) request (next_in p next) (cursor_in p cursor.items) (talk_of going.old)) ≡ turn_of p going.new node) }
+    ensures { IfOk result (λ node. (p : AnyProgram) → also (asks_in going.old.said.asks) (waits (least_free used.now) request (next_in p next) (cursor_in p cursor.items) (talk_of going.old)) ≡ turn_of p going.new node) }
 {
     let slot = least_free(used);
     let copied = request.copy(alloc)?;
-    going.asks.push(Ask {
+    going.said.asks.push(Ask {
         slot,
         request: copied,
     })?;
     let first = asking(alloc, slot, request, next)?;
     let node = compose(alloc, first, cursor)?;
     Ok(node)
-}
-
-// The text from a place on.
-fn only(alloc: Global, place: usize) -> Result<Cursor, NoMemory>
-    ensures cursor { IfOk result (λ cursor. (p : AnyProgram) → cursor_in p cursor.items ≡ Rest (text_from p place) ∷ []) }
-    ensures highest { IfOk result (λ cursor. highest cursor.items ≡ place) }
-{
-    let cursor = only_in(Vec::new(alloc), place)?;
-    Ok(cursor)
 }
 
 /// The text from a place on, in the memory of a cursor that is no longer needed.

@@ -1,5 +1,6 @@
 //! What a callback knows, and what it leaves.
 ghost use Rattle.std.specs.Prelude.{◌≡◌, []};
+ghost use Rattle.ax_future.specs.Talks.{facts_in, known_in};
 
 use ax_base::{ListOf, Nums};
 use ax_keys::Key;
@@ -17,6 +18,30 @@ pub struct Facts {
     pub wm: i64,
     /// The values of the row, and none for a timer. A value that is absent counts as 0.
     pub values: Nums,
+}
+
+/// What the statements of a handler may speak of besides its states: those parts of `Facts`, borrowed.
+#[derive(Clone, Copy)]
+pub struct Known<'a> {
+    /// The time of the row or of the timer.
+    pub time: i64,
+    /// The greatest watermark before the row, or the one that fires.
+    pub wm: i64,
+    /// The values of the row, and none for a timer. A value that is absent counts as 0.
+    pub values: &'a [i64],
+}
+
+impl Facts {
+    /// What the statements may speak of.
+    pub fn known(&self) -> Known<'_>
+        ensures { known_in result ≡ facts_in self.now }
+    {
+        Known {
+            time: self.time,
+            wm: self.wm,
+            values: self.values.as_slice(),
+        }
+    }
 }
 
 /// A request that goes out, and the slot that waits for its answer.

@@ -3,27 +3,28 @@ ghost use Rattle.std.specs.Prelude.{◌≡◌, pos, ◌≤◌, ◌<◌, ◌++◌
 ghost use Rattle.std.specs.Ordering.{int_eq};
 ghost use Rattle.ax_text.specs.Exprs.{value};
 ghost use Rattle.ax_text.specs.Functions.{upd};
+ghost use Rattle.ax_text.specs.Silent.{silent};
 ghost use Rattle.ax_text.specs.Run.{with_names, bind, take_in, Assign as AssignTo, Ignore as IgnoreIt};
 ghost use Rattle.ax_expr.specs.Shown.{shown_expr};
 ghost use Rattle.ax_lang.specs.Forms.{form_of, shown_loop};
 ghost use Rattle.ax_future.specs.Nodes.{after_in};
-ghost use Rattle.ax_future.specs.Talks.{names_at, facts_in, talk_of, act_by, question_by, question_in, seen_question};
+ghost use Rattle.ax_future.specs.Talks.{names_at, known_in, talk_of, act_by, question_by, question_in, seen_question};
 
-use crate::callback::{Asks, Facts, Outs, TimerOps};
+use crate::callback::{Known, Turn};
 use crate::node::{Assign, Cursor};
-use ax_base::{NoMemory, Nums, Pair};
+use ax_base::{ListOf, NoMemory, Nums, Pair};
 use ax_expr::{Expr, Scope};
 use ax_lang::{Loop, Stmt};
 use ax_text::{Request, TimerOp};
 use std::alloc::Global;
+use std::mem;
 
-/// The local names' numbers, and what was said since the callback began.
+/// What a handler has worked out.
 #[derive(Drop)]
 pub struct Going {
     pub names: Vec<i64>,
-    pub asks: Asks,
-    pub outs: Outs,
-    pub timer_ops: TimerOps,
+    /// What the callback has said.
+    pub said: Turn,
     /// The memory of a cursor that has ended, for the next handler.
     pub spare: Cursor,
 }
@@ -59,13 +60,13 @@ fn reach(names: &mut Vec<i64>, name: usize) -> Result<(), NoMemory>
 }
 
 // The value of an expression.
-fn value_in(facts: &Facts, names: &Vec<i64>, expr: &Expr) -> i64
-    ensures { result ≡ value (facts_in facts.now) (names_at names.now.items) (shown_expr expr.now) }
+fn value_in(facts: &Known<'_>, names: &Vec<i64>, expr: &Expr) -> i64
+    ensures { result ≡ value (known_in facts.now) (names_at names.now.items) (shown_expr expr.now) }
 {
     let scope = Scope {
         time: facts.time,
         wm: facts.wm,
-        values: facts.values.as_slice(),
+        values: facts.values,
         names: names.as_slice(),
     };
     expr.value(&scope)
@@ -74,11 +75,11 @@ fn value_in(facts: &Facts, names: &Vec<i64>, expr: &Expr) -> i64
 // The values of expressions.
 fn values_in(
     alloc: Global,
-    facts: &Facts,
+    facts: &Known<'_>,
     names: &Vec<i64>,
     exprs: &[Expr],
 ) -> Result<Nums, NoMemory>
-    ensures { IfOk result (λ line. line ≡ map (value (facts_in facts.now) (names_at names.now.items)) (map shown_expr exprs.now)) }
+    ensures { IfOk result (λ line. line ≡ map (value (known_in facts.now) (names_at names.now.items)) (map shown_expr exprs.now)) }
 {
     let mut line = Nums::new(alloc);
     for expr in exprs {
@@ -87,18 +88,57 @@ fn values_in(
     Ok(line)
 }
 
+// Empties a list, and keeps its memory.
+fn empty<T: Drop>(alloc: Global, list: &mut ListOf<T>)
+    ensures { list.new ≡ [] }
+{
+    let mut items = mem::replace(list, ListOf::new(alloc)).into_vec();
+    items.clear();
+    *list = ListOf::from_vec(items);
+}
+
 impl Going {
+    /// Nothing is worked out and nothing said.
+    pub fn new(alloc: Global) -> Going {
+        Going {
+            names: Vec::new(alloc),
+            said: Turn::new(alloc),
+            spare: Vec::new(alloc),
+        }
+    }
+
+    /// A callback begins: nothing is said yet.
+    pub fn hush(&mut self, alloc: Global)
+        ensures talk { talk_of self.new ≡ silent (names_at self.old.names.items) }
+        ensures asks { self.new.said.asks ≡ [] }
+    {
+        empty(alloc, &mut self.said.asks);
+        empty(alloc, &mut self.said.outs);
+        empty(alloc, &mut self.said.timer_ops);
+    }
+
+    /// A handler begins: nothing is worked out or said yet. The answer is the memory of a cursor that has ended.
+    #[tactic(auto, using(crate::proofs::TalkLemmas::no_names))]
+    pub fn renew(&mut self, alloc: Global) -> Cursor
+        ensures talk { talk_of self.new ≡ silent (λ i. pos 0) }
+        ensures asks { self.new.said.asks ≡ [] }
+    {
+        self.names.clear();
+        self.hush(alloc);
+        mem::replace(&mut self.spare, Vec::new(alloc))
+    }
+
     /// Whether an expression is 0.
-    pub fn is_zero(&self, facts: &Facts, expr: &Expr) -> bool
-        ensures { result ≡ int_eq (value (facts_in facts.now) (names_at self.now.names.items) (shown_expr expr.now)) (pos 0) }
+    pub fn is_zero(&self, facts: &Known<'_>, expr: &Expr) -> bool
+        ensures { result ≡ int_eq (value (known_in facts.now) (names_at self.now.names.items) (shown_expr expr.now)) (pos 0) }
     {
         value_in(facts, &self.names, expr) == 0
     }
 
     /// Does what a statement says that asks nothing of the state.
-    pub fn act(&mut self, alloc: Global, facts: &Facts, stmt: &Stmt) -> Result<(), NoMemory>
-        ensures talk { OnOk result (talk_of self.new ≡ act_by (facts_in facts.now) (form_of stmt.now) (talk_of self.old)) }
-        ensures asks { self.new.asks ≡ self.old.asks }
+    pub fn act(&mut self, alloc: Global, facts: &Known<'_>, stmt: &Stmt) -> Result<(), NoMemory>
+        ensures talk { OnOk result (talk_of self.new ≡ act_by (known_in facts.now) (form_of stmt.now) (talk_of self.old)) }
+        ensures asks { self.new.said.asks ≡ self.old.said.asks }
     {
         match stmt {
             Stmt::Let { name, value } => {
@@ -107,28 +147,29 @@ impl Going {
             }
             Stmt::Emit { values } => {
                 let line = values_in(alloc, facts, &self.names, values.as_slice())?;
-                self.outs.push(line)
+                self.said.outs.push(line)
             }
             Stmt::SetTimer { time } => {
                 let time = value_in(facts, &self.names, time);
-                self.timer_ops.push(TimerOp::Set { time })
+                self.said.timer_ops.push(TimerOp::Set { time })
             }
             Stmt::UnsetTimer { time } => {
                 let time = value_in(facts, &self.names, time);
-                self.timer_ops.push(TimerOp::Unset { time })
+                self.said.timer_ops.push(TimerOp::Unset { time })
             }
             _ => Ok(()),
         }
     }
 
     /// What a statement asks, where it asks once.
+    #[inline(always)]
     pub fn question(
         &self,
         alloc: Global,
-        facts: &Facts,
+        facts: &Known<'_>,
         stmt: &Stmt,
     ) -> Result<Option<Question>, NoMemory>
-        ensures { IfOk result (λ q. seen_question q ≡ question_by (facts_in facts.now) (form_of stmt.now) (names_at self.now.names.items)) }
+        ensures { IfOk result (λ q. seen_question q ≡ question_by (known_in facts.now) (form_of stmt.now) (names_at self.now.names.items)) }
     {
         let names = &self.names;
         let question = match stmt {
@@ -202,7 +243,7 @@ impl Going {
     /// The names of an `each` take a turn.
     pub fn bind(&mut self, turn: Loop, pair: &Pair) -> Result<(), NoMemory>
         ensures talk { OnOk result (talk_of self.new ≡ with_names (bind (shown_loop turn) pair.now (talk_of self.old).names) (talk_of self.old)) }
-        ensures asks { self.new.asks ≡ self.old.asks }
+        ensures asks { self.new.said.asks ≡ self.old.said.asks }
     {
         match turn {
             Loop::Items { name, .. } => assign(&mut self.names, name, pair.at),

@@ -23,7 +23,7 @@ mod node;
 mod nodes;
 
 pub use ax_text::{Handler, TimerOp};
-pub use callback::{Ask, Asks, Facts, Outs, TimerOps, Turn};
+pub use callback::{Ask, Asks, Facts, Known, Outs, TimerOps, Turn};
 pub use machine::Machine;
 pub use node::{Assign, Cursor, Frame, Next, Node};
 pub use nodes::{combine, compose, then};

@@ -9,16 +9,15 @@ ghost use Rattle.ax_lang.specs.declared.program.Program.{Program as AnyProgram};
 ghost use Rattle.ax_lang.specs.Shown.{shown_program};
 ghost use Rattle.ax_future.specs.Least.{IsLeastWaiting};
 ghost use Rattle.ax_future.specs.Nodes.{control_in};
-ghost use Rattle.ax_future.specs.Moves.{turn_of};
-ghost use Rattle.ax_future.specs.Talks.{facts_in, asks_in};
+ghost use Rattle.ax_future.specs.Talks.{facts_in, known_in, asks_in};
 
-use crate::answers::{add_others, give_in, waits_at};
+use crate::answers::{add_others, give, waits_at};
 use crate::begin::{begin, only_in};
-use crate::callback::{Facts, Turn};
+use crate::callback::{Facts, Known, Turn};
 use crate::going::Going;
 use crate::least::least_of;
-use crate::node::{Cursor, Node};
-use ax_base::{ListOf, NoMemory};
+use crate::node::Node;
+use ax_base::NoMemory;
 use ax_lang::Program;
 use ax_text::{Answer, Handler, Request};
 use std::alloc::Global;
@@ -31,40 +30,16 @@ use std::mem;
 pub struct Machine {
     alloc: Global,
     node: Node,
-    names: Vec<i64>,
-    // The memory of a cursor that has ended, for the next handler.
-    spare: Cursor,
+    going: Going,
 }
 
-// An empty list, in the memory of one that is taken.
-fn emptied<T: Drop>(alloc: Global, items: &mut Vec<T>) -> Vec<T>
-    ensures { result.items ≡ [] }
+// Whether a node is a wait at this slot.
+fn is_alone(node: &Node, slot: u8) -> bool
+    ensures { (p : AnyProgram) → IsTrue result → without slot (slots (control_in p node.now)) ≡ [] }
 {
-    let mut taken = mem::replace(items, Vec::new(alloc));
-    taken.clear();
-    taken
-}
-
-// The same of a list that contracts see as one.
-fn emptied_list<T: Drop>(alloc: Global, list: &mut ListOf<T>) -> ListOf<T>
-    ensures { result ≡ [] }
-{
-    let taken = mem::replace(list, ListOf::new(alloc));
-    let mut items = taken.into_vec();
-    items.clear();
-    ListOf::from_vec(items)
-}
-
-// Nothing said yet, in the memory of a turn that is taken.
-fn silent(alloc: Global, names: Vec<i64>, spare: Cursor, turn: &mut Turn) -> Going
-    ensures { result ≡ record { names = names; asks = []; outs = []; timer_ops = []; spare = spare } }
-{
-    Going {
-        names,
-        asks: emptied_list(alloc, &mut turn.asks),
-        outs: emptied_list(alloc, &mut turn.outs),
-        timer_ops: emptied_list(alloc, &mut turn.timer_ops),
-        spare,
+    match node {
+        Node::Wait { slot: other, .. } => slot == *other,
+        _ => false,
     }
 }
 
@@ -73,12 +48,15 @@ fn others_of(alloc: Global, node: &Node, slot: u8) -> Result<Vec<u8>, NoMemory>
     ensures { IfOk result (λ others. (p : AnyProgram) → others.items ≡ without slot (slots (control_in p node.now))) }
 {
     let mut others = Vec::new(alloc);
+    if is_alone(node, slot) {
+        return Ok(others);
+    }
     add_others(node, slot, &mut others)?;
     Ok(others)
 }
 
 impl Machine {
-    ghost use Rattle.ax_future.specs.Machines.{control_of, names_of, left_by, IsSound};
+    ghost use Rattle.ax_future.specs.Machines.{control_of, names_of, said_by, left_by, IsSound};
 
     /// A machine that is done. It takes no memory before a handler starts in it.
     pub fn new(alloc: Global) -> Machine
@@ -87,8 +65,7 @@ impl Machine {
         Machine {
             alloc,
             node: Node::Done,
-            names: Vec::new(alloc),
-            spare: Vec::new(alloc),
+            going: Going::new(alloc),
         }
     }
 
@@ -109,35 +86,32 @@ impl Machine {
         ensures rise { IfOk result (λ r. SlotsRise (asks_in r.1.asks)) }
     {
         let mut machine = Machine::new(alloc);
-        let mut turn = Turn::new(alloc);
-        machine.start_into(program, handler, facts, &mut turn)?;
+        machine.restart(program, handler, &facts.known())?;
+        let turn = mem::replace(&mut machine.going.said, Turn::new(alloc));
         Ok((machine, turn))
     }
 
-    /// Starts a handler, as `start` does, in the memory of this machine and of a turn: wherever the machine stood, that is
-    /// over, and what the turn said is gone. After `NoMemory`, its only fault, the machine waits for nothing.
-    pub fn start_into(
+    /// Starts a handler, as `start` does, in the memory of this machine: wherever it stood, that is over, and what it said is
+    /// gone. After `NoMemory`, its only fault, the machine waits for nothing.
+    pub fn restart(
         &mut self,
         program: &Program,
         handler: Handler,
-        facts: &Facts,
-        turn: &mut Turn,
+        facts: &Known<'_>,
     ) -> Result<(), NoMemory>
-        ensures turn { OnOk result (begin (facts_in facts.now) (Rest (text_for (shown_program program.now) handler) ∷ []) [] (silent (λ i. pos 0)) ≡ left_by program.now self.new turn.new) }
+        ensures turn { OnOk result (begin (known_in facts.now) (Rest (text_for (shown_program program.now) handler) ∷ []) [] (silent (λ i. pos 0)) ≡ left_by program.now self.new (said_by self.new)) }
         ensures sound { OnOk result (IsSound program.now self.new) }
-        ensures asks { OnOk result (waiting (control_of program.now self.new) ≡ asks_in turn.new.asks) }
-        ensures least { OnOk result (TakesLeast [] (asks_in turn.new.asks)) }
-        ensures rise { OnOk result (SlotsRise (asks_in turn.new.asks)) }
+        ensures asks { OnOk result (waiting (control_of program.now self.new) ≡ asks_in (said_by self.new).asks) }
+        ensures least { OnOk result (TakesLeast [] (asks_in (said_by self.new).asks)) }
+        ensures rise { OnOk result (SlotsRise (asks_in (said_by self.new).asks)) }
         ensures stopped { OnErr result (control_of program.now self.new ≡ Done) }
     {
         let alloc = self.alloc;
         self.node = Node::Done;
-        let names = emptied(alloc, &mut self.names);
-        let spare = emptied(alloc, &mut self.spare);
+        let spare = self.going.renew(alloc);
         let cursor = only_in(spare, program.place_of(handler))?;
-        let mut going = silent(alloc, names, Vec::new(alloc), turn);
-        let node = begin(alloc, program, facts, &[], cursor, &mut going)?;
-        self.leave(node, going, turn);
+        let node = begin(alloc, program, facts, &[], cursor, &mut self.going)?;
+        self.node = node;
         Ok(())
     }
 
@@ -162,61 +136,54 @@ impl Machine {
         ensures rise { IfOk result (λ turn. SlotsRise (asks_in turn.asks)) }
         ensures stopped { OnErr result (control_of program.now self.new ≡ Done) }
     {
-        let mut turn = Turn::new(self.alloc);
-        self.resume_into(program, facts, slot, answer, &mut turn)?;
+        self.take_answer(program, &facts.known(), slot, answer)?;
+        let turn = mem::replace(&mut self.going.said, Turn::new(self.alloc));
         Ok(turn)
     }
 
-    /// Gives the answer of a slot, and runs on, as `resume` does, in the memory of a turn: what it said is gone.
+    /// Gives the answer of a slot, and runs on, as `resume` does, in the memory of this machine: what it said before is gone.
+    /// After `NoMemory`, its only fault, the machine waits for nothing.
     ///
     /// Condition: that of `resume`.
-    pub fn resume_into(
+    pub fn take_answer(
         &mut self,
         program: &Program,
-        facts: &Facts,
+        facts: &Known<'_>,
         slot: u8,
         answer: Answer,
-        turn: &mut Turn,
     ) -> Result<(), NoMemory>
         requires sound { IsSound program.now self.old }
         requires waits { has slot (slots (control_of program.now self.old)) ≡ true }
-        ensures turn { OnOk result (give (facts_in facts.now) (control_of program.now self.old) slot answer (silent (names_of self.old)) ≡ left_by program.now self.new turn.new) }
+        ensures turn { OnOk result (give (known_in facts.now) (control_of program.now self.old) slot answer (silent (names_of self.old)) ≡ left_by program.now self.new (said_by self.new)) }
         ensures sound { OnOk result (IsSound program.now self.new) }
-        ensures asks { OnOk result (waiting (control_of program.now self.new) ≡ replaced slot (asks_in turn.new.asks) (waiting (control_of program.now self.old))) }
-        ensures least { OnOk result (TakesLeast (without slot (slots (control_of program.now self.old))) (asks_in turn.new.asks)) }
-        ensures rise { OnOk result (SlotsRise (asks_in turn.new.asks)) }
+        ensures asks { OnOk result (waiting (control_of program.now self.new) ≡ replaced slot (asks_in (said_by self.new).asks) (waiting (control_of program.now self.old))) }
+        ensures least { OnOk result (TakesLeast (without slot (slots (control_of program.now self.old))) (asks_in (said_by self.new).asks)) }
+        ensures rise { OnOk result (SlotsRise (asks_in (said_by self.new).asks)) }
         ensures stopped { OnErr result (control_of program.now self.new ≡ Done) }
     {
         let alloc = self.alloc;
         let node = mem::replace(&mut self.node, Node::Done);
-        let names = mem::replace(&mut self.names, Vec::new(alloc));
-        let spare = mem::replace(&mut self.spare, Vec::new(alloc));
+        self.going.hush(alloc);
         let others = others_of(alloc, &node, slot)?;
-        let mut going = silent(alloc, names, spare, turn);
-        let node = give_in(
-            alloc, program, facts, &others, node, slot, answer, &mut going,
+        let node = give(
+            alloc,
+            program,
+            facts,
+            &others,
+            node,
+            slot,
+            answer,
+            &mut self.going,
         )?;
-        self.leave(node, going, turn);
+        self.node = node;
         Ok(())
     }
 
-    // The machine stands at a node, and the turn says what was said.
-    fn leave(&mut self, node: Node, going: Going, turn: &mut Turn)
-        ensures { (p : AnyProgram) → left_by p self.new turn.new ≡ turn_of p going node }
+    /// What the last callback said: that of the start, or of the answer that was given last.
+    pub fn said(&self) -> &Turn
+        ensures { result.now ≡ said_by self.now }
     {
-        let Going {
-            names,
-            asks,
-            outs,
-            timer_ops,
-            spare,
-        } = going;
-        self.node = node;
-        self.names = names;
-        self.spare = spare;
-        turn.asks = asks;
-        turn.outs = outs;
-        turn.timer_ops = timer_ops;
+        &self.going.said
     }
 
     /// Whether it is done: exactly where no slot waits.

@@ -8,10 +8,10 @@ ghost use Rattle.ax_lang.specs.Forms.{form_of, text_with, top_of, shown_loop, Br
 ghost use Rattle.ax_lang.specs.Shown.{text_from};
 ghost use Rattle.ax_expr.specs.Shown.{shown_expr};
 ghost use Rattle.ax_future.specs.Nodes.{frame_in, cursor_in, place_of, highest};
-ghost use Rattle.ax_future.specs.Talks.{facts_in, talk_of};
+ghost use Rattle.ax_future.specs.Talks.{known_in, talk_of};
 ghost use Rattle.ax_future.specs.Moves.{IsPlain, Moves, above};
 
-use crate::callback::Facts;
+use crate::callback::Known;
 use crate::going::Going;
 use crate::node::{Cursor, Frame, Next};
 use ax_base::{NoMemory, Pair, Pairs};
@@ -56,18 +56,19 @@ fn loop_request(turn: Loop) -> Request
 }
 
 // A statement that asks at most once.
+#[inline(always)]
 fn take_plain(
     alloc: Global,
-    facts: &Facts,
+    facts: &Known<'_>,
     step: &Step,
     cursor: &mut Cursor,
     going: &mut Going,
 ) -> Result<Move, NoMemory>
     requires { IsPlain (form_of step.now.stmt) }
-    ensures moves { IfOk result (λ m. (p : AnyProgram) → Moves (facts_in facts.now) p (Rest (text_with (text_from p) (form_of step.now.stmt) step.now.next) ∷ cursor_in p cursor.old.items) (cursor_in p cursor.new.items) (talk_of going.old) (talk_of going.new) m) }
+    ensures moves { IfOk result (λ m. (p : AnyProgram) → Moves (known_in facts.now) p (Rest (text_with (text_from p) (form_of step.now.stmt) step.now.next) ∷ cursor_in p cursor.old.items) (cursor_in p cursor.new.items) (talk_of going.old) (talk_of going.new) m) }
     ensures places { IfOk result (λ m. highest cursor.new.items ≤ max (highest cursor.old.items) (top_of step.now)) }
     ensures above { IfOk result (λ m. above m ≤ suc (top_of step.now)) }
-    ensures asks { going.new.asks ≡ going.old.asks }
+    ensures asks { going.new.said.asks ≡ going.old.said.asks }
 {
     put(cursor, Frame::Rest { place: step.next })?;
     match going.question(alloc, facts, &step.stmt)? {
@@ -86,13 +87,13 @@ fn take_plain(
 
 // An `if`: one of its parts comes first, and then what stands behind it.
 fn take_branch(
-    facts: &Facts,
+    facts: &Known<'_>,
     going: &Going,
     test: &Expr,
     parts: &Parts,
     cursor: &mut Cursor,
 ) -> Result<Move, NoMemory>
-    ensures moves { IfOk result (λ m. (p : AnyProgram) → Moves (facts_in facts.now) p (Rest (text_with (text_from p) (Branches (shown_expr test.now) parts.now.one parts.now.other) parts.now.next) ∷ cursor_in p cursor.old.items) (cursor_in p cursor.new.items) (talk_of going.now) (talk_of going.now) m) }
+    ensures moves { IfOk result (λ m. (p : AnyProgram) → Moves (known_in facts.now) p (Rest (text_with (text_from p) (Branches (shown_expr test.now) parts.now.one parts.now.other) parts.now.next) ∷ cursor_in p cursor.old.items) (cursor_in p cursor.new.items) (talk_of going.now) (talk_of going.now) m) }
     ensures places { OnOk result (highest cursor.new.items ≤ max (highest cursor.old.items) (max parts.now.next (max parts.now.one parts.now.other))) }
     ensures above { IfOk result (λ m. above m ≡ 0) }
 {
@@ -115,17 +116,18 @@ struct Parts {
 }
 
 // One statement.
+#[inline(always)]
 fn take_step(
     alloc: Global,
-    facts: &Facts,
+    facts: &Known<'_>,
     step: &Step,
     cursor: &mut Cursor,
     going: &mut Going,
 ) -> Result<Move, NoMemory>
-    ensures moves { IfOk result (λ m. (p : AnyProgram) → Moves (facts_in facts.now) p (Rest (text_with (text_from p) (form_of step.now.stmt) step.now.next) ∷ cursor_in p cursor.old.items) (cursor_in p cursor.new.items) (talk_of going.old) (talk_of going.new) m) }
+    ensures moves { IfOk result (λ m. (p : AnyProgram) → Moves (known_in facts.now) p (Rest (text_with (text_from p) (form_of step.now.stmt) step.now.next) ∷ cursor_in p cursor.old.items) (cursor_in p cursor.new.items) (talk_of going.old) (talk_of going.new) m) }
     ensures places { OnOk result (highest cursor.new.items ≤ max (highest cursor.old.items) (top_of step.now)) }
     ensures above { IfOk result (λ m. above m ≤ suc (top_of step.now)) }
-    ensures asks { going.new.asks ≡ going.old.asks }
+    ensures asks { going.new.said.asks ≡ going.old.said.asks }
 {
     match &step.stmt {
         Stmt::If { test, one, other } => {
@@ -176,7 +178,7 @@ fn take_turn(
     ensures moves { IfOk result (λ m. (p : AnyProgram) (f : AnyFacts) → Moves f p (Turns (shown_loop turn) (drop at turns) (text_from p body) ∷ cursor_in p cursor.old.items) (cursor_in p cursor.new.items) (talk_of going.old) (talk_of going.new) m) }
     ensures places { OnOk result (highest cursor.new.items ≤ max (highest cursor.old.items) body) }
     ensures above { IfOk result (λ m. above m ≡ 0) }
-    ensures asks { going.new.asks ≡ going.old.asks }
+    ensures asks { going.new.said.asks ≡ going.old.said.asks }
 {
     if at < turns.len() {
         let pair = pair_at(&turns, at);
@@ -196,18 +198,19 @@ fn take_turn(
 }
 
 // What a frame says.
+#[inline(always)]
 fn take_frame(
     alloc: Global,
     program: &Program,
-    facts: &Facts,
+    facts: &Known<'_>,
     frame: Frame,
     cursor: &mut Cursor,
     going: &mut Going,
 ) -> Result<Move, NoMemory>
-    ensures moves { IfOk result (λ m. Moves (facts_in facts.now) program.now (frame_in program.now frame ∷ cursor_in program.now cursor.old.items) (cursor_in program.now cursor.new.items) (talk_of going.old) (talk_of going.new) m) }
+    ensures moves { IfOk result (λ m. Moves (known_in facts.now) program.now (frame_in program.now frame ∷ cursor_in program.now cursor.old.items) (cursor_in program.now cursor.new.items) (talk_of going.old) (talk_of going.new) m) }
     ensures places { OnOk result (highest cursor.new.items ≤ max (highest cursor.old.items) (place_of frame)) }
     ensures above { IfOk result (λ m. above m ≤ place_of frame) }
-    ensures asks { going.new.asks ≡ going.old.asks }
+    ensures asks { going.new.said.asks ≡ going.old.said.asks }
 {
     match frame {
         Frame::Turns {
@@ -230,17 +233,18 @@ fn take_frame(
 }
 
 /// One step of what is still to be run.
+#[inline(always)]
 pub fn advance(
     alloc: Global,
     program: &Program,
-    facts: &Facts,
+    facts: &Known<'_>,
     cursor: &mut Cursor,
     going: &mut Going,
 ) -> Result<Move, NoMemory>
-    ensures moves { IfOk result (λ m. Moves (facts_in facts.now) program.now (cursor_in program.now cursor.old.items) (cursor_in program.now cursor.new.items) (talk_of going.old) (talk_of going.new) m) }
+    ensures moves { IfOk result (λ m. Moves (known_in facts.now) program.now (cursor_in program.now cursor.old.items) (cursor_in program.now cursor.new.items) (talk_of going.old) (talk_of going.new) m) }
     ensures places { OnOk result (highest cursor.new.items ≤ highest cursor.old.items) }
     ensures above { IfOk result (λ m. above m ≤ highest cursor.old.items) }
-    ensures asks { going.new.asks ≡ going.old.asks }
+    ensures asks { going.new.said.asks ≡ going.old.said.asks }
 {
     match cursor.pop() {
         None => Ok(Move::End),

@@ -14,6 +14,7 @@ use std::alloc::Global;
 
 /// The answer that `first` waits for goes to `assign`: `thenApply`, and `thenAccept` where nothing takes it, of a state
 /// future (Flink, FLIP-424). A node that doesn't wait for one answer stays as it is. The only fault is `NoMemory`.
+#[inline(always)]
 pub fn then(_alloc: Global, first: Node, assign: Assign) -> Result<Node, NoMemory>
     ensures control { IfOk result (λ node. (p : AnyProgram) → control_in p node ≡ taken_by (control_in p first) (after_in assign)) }
     ensures left { IfOk result (λ node. (p : AnyProgram) (f : AnyFacts) (answers : Answers) (w : World) → what_is_left f answers (control_in p node) w ≡ left_taken f answers (control_in p first) (after_in assign) w) }
@@ -36,6 +37,7 @@ pub fn then(_alloc: Global, first: Node, assign: Assign) -> Result<Node, NoMemor
 
 /// The text goes on at `rest` where `first` has ended: `thenCompose` of a state future (Flink, FLIP-424). It takes time
 /// for the frames that `first` has left, and none for those of `rest`. The only fault is `NoMemory`.
+#[inline(always)]
 pub fn compose(alloc: Global, first: Node, rest: Cursor) -> Result<Node, NoMemory>
     ensures control { IfOk result (λ node. (p : AnyProgram) → control_in p node ≡ compose (control_in p first) (cursor_in p rest.items)) }
     ensures left { IfOk result (λ node. (p : AnyProgram) (f : AnyFacts) (answers : Answers) (w : World) → what_is_left f answers (control_in p node) w ≡ run_cursor f (cursor_in p rest.items) (what_is_left f answers (control_in p first) w)) }
@@ -72,6 +74,7 @@ pub fn combine(alloc: Global, left: Node, right: Node) -> Result<Node, NoMemory>
 }
 
 /// A request that waits at a slot, and what becomes of its answer.
+#[inline(always)]
 pub fn asking(alloc: Global, slot: u8, request: Request, next: Next) -> Result<Node, NoMemory>
     ensures { IfOk result (λ node. (p : AnyProgram) → control_in p node ≡ WaitsFor slot request (next_in p next) []) }
 {
@@ -120,9 +123,13 @@ fn pair(alloc: Global, one: Node, two: Node, cursor: Cursor) -> Result<Node, NoM
 
 // What is still to be run, and then more.
 #[tactic(auto, using(crate::proofs::CursorLemmas::cursor_append))]
+#[inline(always)]
 fn behind(inner: Cursor, rest: Cursor) -> Result<Cursor, NoMemory>
     ensures { IfOk result (λ all. (p : AnyProgram) → cursor_in p all.items ≡ cursor_in p inner.items ++ cursor_in p rest.items) }
 {
+    if inner.is_empty() {
+        return Ok(rest);
+    }
     let mut all = rest;
     add_all(&mut all, inner)?;
     Ok(all)

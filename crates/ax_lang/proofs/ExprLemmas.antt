@@ -204,7 +204,7 @@ up_to n None h = absurd (false≢true h)
 up_to n (Some m) h = leb-true n m h
 
 -- a value that is known
-value_known : (t : Tables) (w : Word) → is_value_word w ≡ true → is_unknown_value t w ≡ false → (t.timer ≡ false) × (is_up_to (field_number w) t.fields ≡ true)
+pub value_known : (t : Tables) (w : Word) → is_value_word w ≡ true → is_unknown_value t w ≡ false → (t.timer ≡ false) × (is_up_to (field_number w) t.fields ≡ true)
 value_known t w v h =
     let a = or_parts t.timer (not (is_up_to (field_number w) t.fields)) (and_second (is_value_word w) _ v h) in
     (a.0, not-false (is_up_to (field_number w) t.fields) a.1)
@@ -315,7 +315,7 @@ onto_all p w (q ∷ qs) h g =
     let a = and_parts (list_all p q) (list_all (list_all p) qs) g in
     and_from (list_all p (w ∷ q)) (list_all (list_all p) qs) (and_from (p w) (list_all p q) h a.0) a.1
 
-parts_all : (p : Word → Bool) (ws : List Word) → list_all p ws ≡ true → list_all (list_all p) (parts_of ws) ≡ true
+pub parts_all : (p : Word → Bool) (ws : List Word) → list_all p ws ≡ true → list_all (list_all p) (parts_of ws) ≡ true
 parts_all p [] h = refl
 parts_all p (w ∷ ws) h =
     let a = and_parts (p w) (list_all p ws) h in

@@ -7,6 +7,7 @@ pub mod TokenLemmas
 pub mod ExprLemmas
 pub mod ShapeLemmas
 pub mod NameLemmas
+pub mod CountLemmas
 pub mod SoundLemmas
 pub mod DeclLemmas
 pub mod AcceptedLemmas
@@ -14,3 +15,7 @@ pub mod ReadingLemmas
 pub mod FinishLemmas
 pub mod PrintLemmas
 pub mod BlockLemmas
+pub mod SpellingLemmas
+pub mod DepthLemmas
+pub mod LineLemmas
+pub mod ExampleLemmas

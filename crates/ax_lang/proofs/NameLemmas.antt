@@ -1,5 +1,5 @@
 -- Names of lines, and the places that rows have for them.
-use Rattle.std.proofs.Common.{◌≡◌, ◌∙◌, ℕ, suc, ◌+◌, ◌≤◌, ◌<◌, List, [], ◌∷◌, ◌++◌, map, length, length-append, refl, sym, ap, subst, arith, Bool, true, false, not, ◌&&◌, ◌||◌, nat_lt, nat_eq, ◌==◌, slice_index_or, Option, Some, None, if◌then◌else◌}
+use Rattle.std.proofs.Common.{◌≡◌, ◌∙◌, ℕ, suc, ◌+◌, ◌≤◌, ◌<◌, max, List, [], ◌∷◌, ◌++◌, map, length, length-append, refl, sym, ap, subst, arith, Bool, true, false, not, ◌&&◌, ◌||◌, nat_lt, nat_eq, ◌==◌, slice_index_or, Option, Some, None, if◌then◌else◌}
 use Rattle.std.specs.List.{list_all}
 use Rattle.std.proofs.lemmas.Option.{none-some}
 use Rattle.std.proofs.lemmas.Bool.{and_parts, and_from, lt-ltb, ltb-false, eq-eqb, eqb-true, true≢false, false≢true, not-true, not-false, or_parts, or_right}
@@ -18,6 +18,7 @@ use Rattle.ax_rules.specs.declared.tables.Tables.{Tables}
 use Rattle.ax_rules.specs.Parts.{mem, index_of, with_word, some_is, use_of}
 use Rattle.ax_rules.specs.Lines.{names_of}
 use Rattle.ax_rules.specs.Faults.{is_state, one_if, is_new, count_new, is_last_state, is_too_many, is_value, is_list, is_map, takes, serves, kind_of, some_serves, is_unserved}
+use Rattle.ax_lang.specs.Names.{asking_names}
 use Rattle.ax_lang.specs.Rows.{place_or, place_in, put_by}
 use Rattle.ax_lang.specs.Programs.{kind_in}
 use Rattle.ax_lang.proofs.TokenLemmas.{same_equal}
@@ -118,6 +119,48 @@ two_few t v w h p q d =
 
 pub name_low : (ws : List Word) (w : Word) (n : ℕ) → mem w ws ≡ true → length ws ≤ n → nat_lt (place_in ws w) n ≡ true
 name_low ws w n h few = let low : place_in ws w < length ws = place_fits ws w h in lt-ltb (place_in ws w) n (omega arith)
+
+-- a new name has the place behind the others
+place_last : (n : ℕ) (ws : List Word) (w : Word) → mem w ws ≡ false → place_or (index_of n (ws ++ w ∷ []) w) ≡ n + length ws
+place_last n [] w h = ap (λ (b : Bool). place_or (if b then Some n else index_of (n + 1) [] w)) (same_refl w) ∙ omega arith
+place_last n (x ∷ xs) w h =
+    let a = or_parts (same_word x w) (mem w xs) h in
+    let r : place_or (index_of (n + 1) (xs ++ w ∷ []) w) ≡ n + 1 + length xs = place_last (n + 1) xs w a.1 in
+    ap (λ (b : Bool). place_or (if b then Some n else index_of (n + 1) (xs ++ w ∷ []) w)) a.0 ∙ omega arith
+
+place_keeps : (n : ℕ) (ws : List Word) (v w : Word) → mem v ws ≡ true → index_of n (ws ++ w ∷ []) v ≡ index_of n ws v
+place_keeps n [] v w h = absurd (false≢true h)
+place_keeps n (x ∷ xs) v w h = cases (same_word x v) h (place_keeps (n + 1) xs v w) where
+  cases : (b : Bool) → (b || mem v xs) ≡ true → (mem v xs ≡ true → index_of (n + 1) (xs ++ w ∷ []) v ≡ index_of (n + 1) xs v) → (if b then Some n else index_of (n + 1) (xs ++ w ∷ []) v) ≡ (if b then Some n else index_of (n + 1) xs v)
+  cases true g go = refl
+  cases false g go = go g
+
+-- where one more name is assigned, a name keeps its place
+pub with_place : (w : Word) (ws : List Word) (v : Word) → mem v ws ≡ true → place_in (with_word (Some w) ws) v ≡ place_in ws v
+with_place w ws v h = cases (mem w ws) where
+  cases : (b : Bool) → place_in (if b then ws else (ws ++ w ∷ [])) v ≡ place_in ws v
+  cases true = refl
+  cases false = ap place_or (place_keeps 0 ws v w h)
+
+-- there are as many names as the places of the earlier ones and of this one need
+pub with_length : (w : Word) (ws : List Word) → length (with_word (Some w) ws) ≡ max (length ws) (suc (place_in (with_word (Some w) ws) w))
+with_length w ws = cases (mem w ws) refl where
+  cases : (b : Bool) → mem w ws ≡ b → length (if b then ws else (ws ++ w ∷ [])) ≡ max (length ws) (suc (place_in (if b then ws else (ws ++ w ∷ [])) w))
+  cases true g = let low : place_in ws w < length ws = place_fits ws w g in omega arith
+  cases false g =
+      let n : length (ws ++ w ∷ []) ≡ length ws + 1 = length-append ws (w ∷ []) in
+      let p : place_in (ws ++ w ∷ []) w ≡ 0 + length ws = place_last 0 ws w g in
+      omega arith
+
+-- a `put` assigns no name
+pub put_names : (o : Option KindWord) (state : ℕ) (es : List Expr) → asking_names (put_by o state es) ≡ 0
+put_names None state es = refl
+put_names (Some word.Value) state [] = refl
+put_names (Some word.Value) state (e ∷ es) = refl
+put_names (Some word.List) state es = refl
+put_names (Some word.Map) state [] = refl
+put_names (Some word.Map) state (e ∷ []) = refl
+put_names (Some word.Map) state (e ∷ f ∷ es) = refl
 
 place_from : (n : ℕ) (ws : List Word) (w : Word) → mem w ws ≡ true → n ≤ place_or (index_of n ws w)
 place_from n [] w h = absurd (false≢true h)

@@ -96,10 +96,6 @@ tree_names ms t e = ap (λ (o : Option Expr). names_in (tree_or o)) e ∙ subst 
 
 -- words
 
-some_or_none : {A : Type 0} (o : Option A) → is_some o ≡ false → o ≡ None
-some_or_none None h = refl
-some_or_none (Some x) h = absurd (true≢false h)
-
 is_none_none : {A : Type 0} (o : Option A) → is_none o ≡ true → o ≡ None
 is_none_none None h = refl
 is_none_none (Some x) h = absurd (false≢true h)
@@ -123,7 +119,7 @@ letter_no_digit : (b : ℕ) → is_letter b ≡ true → ((b == 45) ≡ false) �
 letter_no_digit b h = (grind (arith, nat_tests), grind (arith, nat_tests))
 
 -- a word that begins with a letter spells no number
-lettered_number : (w : Word) → is_lettered w ≡ true → number_of w ≡ None
+pub lettered_number : (w : Word) → is_lettered w ≡ true → number_of w ≡ None
 lettered_number [] h = refl
 lettered_number (b ∷ bs) h =
     let a = and_parts (is_letter b && list_all is_name_byte bs) _ h in
@@ -140,7 +136,7 @@ no_field w h = cases (field_number w) refl where
       let c : Counts (is_value_word w) (Some n) = subst (Counts (is_value_word w)) e (field_counts w) in
       absurd (true≢false (sym c.0 ∙ h))
 
-name_atom : (locals : List Word) (w : Word) → is_name w ≡ true → atom_of locals w ≡ atom.Name (place_in locals w)
+pub name_atom : (locals : List Word) (w : Word) → is_name w ≡ true → atom_of locals w ≡ atom.Name (place_in locals w)
 unfolding is_name
 name_atom locals w h =
     let a = and_parts (is_lettered w && is_none (keyword_of w)) (not (is_value_word w)) h in
@@ -191,7 +187,7 @@ operand_names locals w n o r = cases (is_name w) refl where
   cases false e = other_atom locals w e o r.1 ∙ sym (ap (λ (i : Option ℕ). onto i []) (not_there locals w 0 n e))
 
 -- a sign is no name
-sign_no_name : (w : Word) (o : Op) → sign_of w ≡ Some o → is_name w ≡ false
+pub sign_no_name : (w : Word) (o : Op) → sign_of w ≡ Some o → is_name w ≡ false
 unfolding is_operand
 sign_no_name w o e = cases (is_name w) refl where
   cases : (b : Bool) → is_name w ≡ b → b ≡ false

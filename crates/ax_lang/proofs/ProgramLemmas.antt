@@ -18,8 +18,9 @@ use Rattle.ax_lang.specs.declared.step.Row.{Row as CodeRow}
 use Rattle.std.specs.declared.alloc.Global.{Global}
 use Rattle.ax_lang.specs.declared.program.Program.{Program}
 use Rattle.ax_lang.specs.Forms.{form_of, text_with, top_of, shown_row}
+use Rattle.ax_lang.specs.Names.{text_names, names_some, program_names}
 use Rattle.ax_lang.specs.Steps.{row_fits, stmt_fits, rows_some, rows_width, text_if, text_in, texts_from, text_at, text_some, GoesOn}
-use Rattle.ax_lang.specs.Shown.{shown_program, locals_of, text_from, StandsAt}
+use Rattle.ax_lang.specs.Shown.{shown_program, text_from, StandsAt}
 use Rattle.ax_lang.proofs.FitLemmas.{text_of_fits, timer_of_fits}
 use Rattle.ax_lang.proofs.StepLemmas.{step_stands, nothing_past, texts_length}
 
@@ -41,13 +42,14 @@ unfolding text_from text_at
 stands_past p i h = nothing_past (texts_from [] p.steps.items) i (let e : length (texts_from [] p.steps.items) ≡ length p.steps.items = texts_length p.steps.items [] ∙ omega arith in omega arith)
 
 stands_here : (p : Program) (i : ℕ) (s : Step) → i < length p.steps.items → get_or p.steps.items i s ≡ s → StandsAt p (suc i) (Some s)
-unfolding text_from text_at locals_of shown_program
+unfolding text_from text_at shown_program
 stands_here p i s h e =
     let ss = p.steps.items in
     let r = step_stands ss [] p.fields p.locals 0 (kinds p.decls) i i s refl (omega arith) p.fits h in
     let P : Step → Type 0 = λ t. (text_in (texts_from [] ss) (suc i) ≡ text_with (text_in (texts_from [] ss)) (form_of t.stmt) t.next) × (top_of t ≤ i) × (stmt_fits p.fields p.locals (kinds p.decls) t.stmt ≡ true) in
     let q : P s = subst P e r in
-    (q.0, (let low = q.1 in omega arith), subst (λ (ks : List Kind). stmt_fits p.fields p.locals ks s.stmt ≡ true) (program_kinds p.decls) q.2)
+    let names : p.locals ≡ max (text_names (text_in (texts_from [] ss) p.row)) (names_some (text_some ss p.timer)) = p.numbered in
+    (q.0, (let low = q.1 in omega arith), subst (λ (n : ℕ). stmt_fits p.fields n (kinds_of (shown_states p.decls)) s.stmt ≡ true) names (subst (λ (ks : List Kind). stmt_fits p.fields p.locals ks s.stmt ≡ true) (program_kinds p.decls) q.2))
 
 pub stands : (p : Program) (i : ℕ) → StandsAt p (suc i) (slice_get p.steps.items i)
 stands p i = cases (slice_get_cases p.steps.items i).1 where

@@ -6,7 +6,7 @@ use Rattle.ax_base.specs.Words.{words_of}
 use Rattle.ax_syntax.specs.Shapes.{Shape}
 use Rattle.ax_rules.specs.declared.kinds.FaultKind.{FaultKind}
 use Rattle.ax_rules.specs.declared.kinds.FaultKind.TheVariants as fault
-use Rattle.ax_rules.specs.declared.section.Reading.TheVariants as section
+use Rattle.ax_rules.specs.Sections as section
 use Rattle.ax_rules.specs.declared.section.SectionEnd.{SectionEnd}
 use Rattle.ax_rules.specs.declared.tables.Tables.{Tables}
 use Rattle.ax_rules.specs.Kinds.{kind_number}

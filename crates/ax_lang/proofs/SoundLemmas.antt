@@ -1,5 +1,5 @@
 -- Lines without fault: what their rows speak of exists.
-use Rattle.std.proofs.Common.{◌≡◌, ◌∙◌, ℕ, ◌+◌, ◌≤◌, ◌<◌, List, [], ◌∷◌, ◌++◌, map, length, length-append, refl, sym, ap, subst, arith, max, Bool, true, false, not, ◌&&◌, ◌||◌, nat_lt, Option, Some, None, if◌then◌else◌, is_some}
+use Rattle.std.proofs.Common.{◌≡◌, ◌∙◌, ℕ, suc, ◌+◌, ◌≤◌, ◌<◌, List, [], ◌∷◌, ◌++◌, map, length, length-append, refl, sym, ap, subst, arith, max, Bool, true, false, not, ◌&&◌, ◌||◌, nat_lt, Option, Some, None, if◌then◌else◌, is_some}
 use Rattle.std.specs.List.{list_all, list_any}
 use Rattle.std.proofs.lemmas.Option.{none-some}
 use Rattle.std.proofs.lemmas.Bool.{and_parts, and_from, leb-false, lt-ltb, true≢false, false≢true, not-true, not-false, or_parts}
@@ -21,16 +21,18 @@ use Rattle.ax_rules.specs.declared.blocks.Part.{Part}
 use Rattle.ax_rules.specs.Frames.{is_yes, is_one, top_is}
 use Rattle.ax_rules.specs.Parts.{set_of, also_of, reads_of, more_of, some_is, with_word}
 use Rattle.ax_rules.specs.Lines.{names_of, tables_of}
-use Rattle.ax_rules.specs.Faults.{is_state, is_inside, may_stand, is_too_many, is_too_deep, is_twice, is_unknown, is_unknown_use, has_unknown, takes, is_unserved, has_wrong_kind, fault_in, fault_by}
+use Rattle.ax_rules.specs.Faults.{is_state, is_inside, may_stand, is_too_many, is_too_deep, is_twice, is_unknown, is_unknown_use, has_unknown, takes, kind_of, is_unserved, has_wrong_kind, fault_in, fault_by}
 use Rattle.ax_rules.specs.Taking.{behind}
 use Rattle.ax_rules.proofs.FaultLemmas.{behind_line}
 use Rattle.ax_lang.specs.Steps.{row_fits}
 use Rattle.ax_lang.specs.Rows.{HandlerRows, no_rows, with_row, row_of, rows_of, place_in, tree_in}
 use Rattle.ax_lang.specs.Clean.{WellShaped, Clean}
 use Rattle.ax_lang.specs.Programs.{fields_or}
+use Rattle.ax_lang.specs.Names.{rows_names}
+use Rattle.ax_lang.proofs.CountLemmas.{some_names, last_rows, most_names, last_more, most_more, none_more, none_yet}
 use Rattle.ax_lang.proofs.FitLemmas.{rows_grow}
 use Rattle.ax_lang.proofs.ExprLemmas.{values_of, is_known, expr_known, exprs_known, all_known}
-use Rattle.ax_lang.proofs.NameLemmas.{with_mem, with_keeps, same_names, room, last, one_few, two_few, name_low, places_differ, distinct_last, kinds_in, served, state_fits, value_fits, list_fits, map_fits, put_fits}
+use Rattle.ax_lang.proofs.NameLemmas.{with_mem, with_keeps, with_place, with_length, put_names, same_names, room, last, one_few, two_few, name_low, places_differ, distinct_last, kinds_in, served, state_fits, value_fits, list_fits, map_fits, put_fits}
 
 if_none : (b : Bool) (k : FaultKind) (r : Option FaultKind) → (if b then Some k else r) ≡ None → (b ≡ false) × (r ≡ None)
 if_none true k r h = absurd (none-some k (sym h))
@@ -43,7 +45,7 @@ pub record NoFault (t : Tables) (s : Shape) : Type 0 where
   pub known : has_unknown t s ≡ false
   pub kind : has_wrong_kind t s ≡ false
 
-no_fault : (t : Tables) (s : Shape) → fault_in t s ≡ None → NoFault t s
+pub no_fault : (t : Tables) (s : Shape) → fault_in t s ≡ None → NoFault t s
 unfolding fault_in
 no_fault t s h =
     let a = if_none (not (may_stand t s)) fault.Word _ h in
@@ -65,6 +67,9 @@ pub record Sound (t : Tables) (rows : HandlerRows) : Type 0 where
   pub distinct : are_distinct (names_of t.states) ≡ true
   pub most : t.most ≤ 256
   pub locals : length t.locals ≤ t.most
+  -- as many names as the lines of the last handler have, and the most of a handler's
+  pub count : length t.locals ≡ rows_names (last_rows t.timer rows)
+  pub all : t.most ≡ most_names rows
   -- a handler is open only behind `on row`, which stands behind `input`
   pub inside : is_inside t ≡ true → t.row ≡ true
   pub input : t.row ≡ true → is_some t.fields ≡ true
@@ -122,6 +127,8 @@ sound_input t rows n h i f =
       distinct = h.distinct;
       most = omega arith;
       locals = omega arith;
+      count = h.count;
+      all = (let is : t.most ≡ most_names rows = h.all in omega arith);
       inside = h.inside;
       input = λ q. refl;
       before = h.before;
@@ -148,6 +155,8 @@ sound_state t rows name kind h w f =
       distinct = ap are_distinct names ∙ distinct_last (names_of t.states) name h.distinct f.once;
       most = omega arith;
       locals = omega arith;
+      count = h.count;
+      all = (let is : t.most ≡ most_names rows = h.all in omega arith);
       inside = h.inside;
       input = h.input;
       before = h.before;
@@ -157,9 +166,9 @@ sound_state t rows name kind h w f =
     }
 
 -- a handler begins
-sound_begun : (t : Tables) (rows : HandlerRows) (row timer : Bool) (n : ℕ) (frames : List Frame) (widest : ℕ) → Sound t rows → row ≡ true → (timer ≡ false → rows.timer ≡ []) → is_some t.fields ≡ true
+sound_begun : (t : Tables) (rows : HandlerRows) (row timer : Bool) (n : ℕ) (frames : List Frame) (widest : ℕ) → Sound t rows → row ≡ true → (timer ≡ false → rows.timer ≡ []) → is_some t.fields ≡ true → 0 ≡ rows_names (last_rows timer rows)
     → Sound (record { fields = t.fields; states = t.states; row = row; timer = timer; locals = []; statements = n; frames = frames; widest = widest; most = max t.most 0 }) rows
-sound_begun t rows row timer n frames widest h r i f =
+sound_begun t rows row timer n frames widest h r i f none =
     let few : t.most ≤ 256 = h.most in
     record {
       fields = h.fields;
@@ -168,6 +177,8 @@ sound_begun t rows row timer n frames widest h r i f =
       distinct = h.distinct;
       most = omega arith;
       locals = omega arith;
+      count = none;
+      all = (let is : t.most ≡ most_names rows = h.all in omega arith);
       inside = λ q. r;
       input = λ q. f;
       before = λ q. absurd (true≢false (sym r ∙ q));
@@ -177,22 +188,22 @@ sound_begun t rows row timer n frames widest h r i f =
     }
 
 sound_row : (t : Tables) (rows : HandlerRows) → Sound t rows → NoFault t shape.OnRow → Sound (behind shape.OnRow t) rows
-unfolding behind may_stand
-sound_row t rows h f = sound_begun t rows true t.timer _ _ _ h refl h.idle (and_parts (not (is_inside t)) (is_some t.fields) f.stands).1
+unfolding behind may_stand is_twice
+sound_row t rows h f = sound_begun t rows true t.timer _ _ _ h refl h.idle (and_parts (not (is_inside t)) (is_some t.fields) f.stands).1 (none_yet t.timer rows (h.before f.once))
 
 sound_timer : (t : Tables) (rows : HandlerRows) → Sound t rows → NoFault t shape.OnTimer → Sound (behind shape.OnTimer t) rows
-unfolding behind may_stand
+unfolding behind may_stand is_twice
 sound_timer t rows h f =
     let row : t.row ≡ true = (and_parts (not (is_inside t)) t.row f.stands).1 in
-    sound_begun t rows t.row true _ _ _ h row (λ q. absurd (true≢false q)) (h.input row)
+    sound_begun t rows t.row true _ _ _ h row (λ q. absurd (true≢false q)) (h.input row) (ap rows_names (sym (h.idle f.once)))
 
 -- lines of a handler
 
 -- a line of a handler adds its names, and its row
-sound_more : (t : Tables) (rows : HandlerRows) (names : List Word) (n : ℕ) (frames : List Frame) (widest : ℕ) (o : Option Row) → Sound t rows → is_inside t ≡ true → length names ≤ 256
+sound_more : (t : Tables) (rows : HandlerRows) (names : List Word) (n : ℕ) (frames : List Frame) (widest : ℕ) (o : Option Row) → Sound t rows → is_inside t ≡ true → length names ≤ 256 → length names ≡ max (length t.locals) (some_names o)
     → SomeFits (row_fits (values_of t) (max t.most (length names)) (kinds_in t.states)) o
     → Sound (record { fields = t.fields; states = t.states; row = t.row; timer = t.timer; locals = names; statements = n; frames = frames; widest = widest; most = max t.most (length names) }) (with_row t.timer o rows)
-sound_more t rows names n frames widest o h inside few fit =
+sound_more t rows names n frames widest o h inside few count fit =
     let row : t.row ≡ true = h.inside inside in
     let now = t.most in
     let later = max t.most (length names) in
@@ -208,6 +219,8 @@ sound_more t rows names n frames widest o h inside few fit =
       distinct = h.distinct;
       most = omega arith;
       locals = omega arith;
+      count = last_more t.timer o rows (length t.locals) (length names) h.count count;
+      all = most_more t.timer o rows (length t.locals) t.most (length names) h.count h.all count;
       inside = λ q. row;
       input = h.input;
       before = λ q. absurd (true≢false (sym row ∙ q));
@@ -227,7 +240,7 @@ pub record Reads (t : Tables) (s : Shape) : Type 0 where
   pub also : some_is (is_state t) (also_of s) ≡ false
   pub served : is_unserved t s ≡ false
 
-reads : (t : Tables) (s : Shape) → NoFault t s → Reads t s
+pub reads : (t : Tables) (s : Shape) → NoFault t s → Reads t s
 unfolding has_unknown has_wrong_kind
 reads t s f =
     let a = or_parts _ (is_unknown_use t s) f.known in
@@ -247,7 +260,7 @@ sound_let t rows name value h w f =
     let r = reads t (shape.Let name value) f in
     let names = with_word (Some name) t.locals in
     let most = max t.most (length names) in
-    sound_more t rows names _ _ _ (row_of (behind (shape.Let name value) t) (shape.Let name value)) h f.stands (one_few t name (room t (shape.Let name value) f.few) r.set)
+    sound_more t rows names _ _ _ (row_of (behind (shape.Let name value) t) (shape.Let name value)) h f.stands (one_few t name (room t (shape.Let name value) f.few) r.set) (with_length name t.locals)
     (and_from (nat_lt (place_in names name) most) (expr_fits (values_of t) most (tree_in names value)) (name_low names name most (with_mem name t.locals) (omega arith))
     (expr_known t names most value w r.reads (with_keeps name t.locals) (omega arith)))
 
@@ -258,7 +271,7 @@ sound_get t rows name state missing h w f =
     let k = served t (shape.Get name state missing) state refl r.served in
     let names = with_word (Some name) t.locals in
     let most = max t.most (length names) in
-    sound_more t rows names _ _ _ (row_of (behind (shape.Get name state missing) t) (shape.Get name state missing)) h f.stands (one_few t name (room t (shape.Get name state missing) f.few) r.set)
+    sound_more t rows names _ _ _ (row_of (behind (shape.Get name state missing) t) (shape.Get name state missing)) h f.stands (one_few t name (room t (shape.Get name state missing) f.few) r.set) (with_length name t.locals)
     (and_from _ (expr_fits (values_of t) most (tree_in names missing))
     (and_from (nat_lt (place_in names name) most) _ (name_low names name most (with_mem name t.locals) (omega arith)) (value_fits t.states state k.0 k.1 k.2))
     (expr_known t names most missing w r.reads (with_keeps name t.locals) (omega arith)))
@@ -271,7 +284,7 @@ sound_get_at t rows name state at missing h v w f =
     let k = served t (shape.GetAt name state at missing) state refl r.served in
     let names = with_word (Some name) t.locals in
     let most = max t.most (length names) in
-    sound_more t rows names _ _ _ (row_of (behind (shape.GetAt name state at missing) t) (shape.GetAt name state at missing)) h f.stands (one_few t name (room t (shape.GetAt name state at missing) f.few) r.set)
+    sound_more t rows names _ _ _ (row_of (behind (shape.GetAt name state at missing) t) (shape.GetAt name state at missing)) h f.stands (one_few t name (room t (shape.GetAt name state at missing) f.few) r.set) (with_length name t.locals)
     (and_from _ _
     (and_from (nat_lt (place_in names name) most) _ (name_low names name most (with_mem name t.locals) (omega arith)) (map_fits t.states state k.0 k.1 k.2))
     (and_from (expr_fits (values_of t) most (tree_in names at)) (expr_fits (values_of t) most (tree_in names missing))
@@ -285,7 +298,7 @@ sound_has t rows name state at h w f =
     let k = served t (shape.Has name state at) state refl r.served in
     let names = with_word (Some name) t.locals in
     let most = max t.most (length names) in
-    sound_more t rows names _ _ _ (row_of (behind (shape.Has name state at) t) (shape.Has name state at)) h f.stands (one_few t name (room t (shape.Has name state at) f.few) r.set)
+    sound_more t rows names _ _ _ (row_of (behind (shape.Has name state at) t) (shape.Has name state at)) h f.stands (one_few t name (room t (shape.Has name state at) f.few) r.set) (with_length name t.locals)
     (and_from _ (expr_fits (values_of t) most (tree_in names at))
     (and_from (nat_lt (place_in names name) most) _ (name_low names name most (with_mem name t.locals) (omega arith)) (map_fits t.states state k.0 k.1 k.2))
     (expr_known t names most at w r.reads (with_keeps name t.locals) (omega arith)))
@@ -297,7 +310,7 @@ sound_empty t rows name state h f =
     let k = served t (shape.Empty name state) state refl r.served in
     let names = with_word (Some name) t.locals in
     let most = max t.most (length names) in
-    sound_more t rows names _ _ _ (row_of (behind (shape.Empty name state) t) (shape.Empty name state)) h f.stands (one_few t name (room t (shape.Empty name state) f.few) r.set)
+    sound_more t rows names _ _ _ (row_of (behind (shape.Empty name state) t) (shape.Empty name state)) h f.stands (one_few t name (room t (shape.Empty name state) f.few) r.set) (with_length name t.locals)
     (and_from (nat_lt (place_in names name) most) _ (name_low names name most (with_mem name t.locals) (omega arith)) (map_fits t.states state k.0 k.1 k.2))
 
 sound_put : (t : Tables) (rows : HandlerRows) (state : Word) (values : List Word) → Sound t rows → is_exprs values ≡ true → NoFault t (shape.Put state values) → SoundOn t rows (shape.Put state values)
@@ -308,6 +321,7 @@ sound_put t rows state values h w f =
     let most = max t.most (length t.locals) in
     let same : length (parts_of values) ≡ length (map (tree_in t.locals) (parts_of values)) = sym (length-map (parts_of values) (tree_in t.locals)) in
     sound_more t rows t.locals _ _ _ (row_of (behind (shape.Put state values) t) (shape.Put state values)) h f.stands (few_locals t rows h)
+    (none_more (length t.locals) ∙ ap (λ (n : ℕ). max (length t.locals) n) (sym (put_names (kind_of t.states state) (place_in (names_of t.states) state) (map (tree_in t.locals) (parts_of values)))))
     (put_fits (values_of t) most t.states state k.0 (map (tree_in t.locals) (parts_of values)) k.1 (subst (λ (n : ℕ). takes k.0 n ≡ true) same k.2)
     (exprs_known t t.locals most values w r.reads (same_names t.locals) (omega arith)))
 
@@ -317,7 +331,7 @@ sound_add t rows state value h w f =
     let r = reads t (shape.Add state value) f in
     let k = served t (shape.Add state value) state refl r.served in
     let most = max t.most (length t.locals) in
-    sound_more t rows t.locals _ _ _ (row_of (behind (shape.Add state value) t) (shape.Add state value)) h f.stands (few_locals t rows h)
+    sound_more t rows t.locals _ _ _ (row_of (behind (shape.Add state value) t) (shape.Add state value)) h f.stands (few_locals t rows h) (none_more (length t.locals))
     (and_from _ (expr_fits (values_of t) most (tree_in t.locals value)) (list_fits t.states state k.0 k.1 k.2) (expr_known t t.locals most value w r.reads (same_names t.locals) (omega arith)))
 
 sound_remove : (t : Tables) (rows : HandlerRows) (state : Word) (at : List Word) → Sound t rows → is_expr at ≡ true → NoFault t (shape.Remove state at) → SoundOn t rows (shape.Remove state at)
@@ -326,7 +340,7 @@ sound_remove t rows state at h w f =
     let r = reads t (shape.Remove state at) f in
     let k = served t (shape.Remove state at) state refl r.served in
     let most = max t.most (length t.locals) in
-    sound_more t rows t.locals _ _ _ (row_of (behind (shape.Remove state at) t) (shape.Remove state at)) h f.stands (few_locals t rows h)
+    sound_more t rows t.locals _ _ _ (row_of (behind (shape.Remove state at) t) (shape.Remove state at)) h f.stands (few_locals t rows h) (none_more (length t.locals))
     (and_from _ (expr_fits (values_of t) most (tree_in t.locals at)) (map_fits t.states state k.0 k.1 k.2) (expr_known t t.locals most at w r.reads (same_names t.locals) (omega arith)))
 
 sound_clear : (t : Tables) (rows : HandlerRows) (state : Word) → Sound t rows → NoFault t (shape.Clear state) → SoundOn t rows (shape.Clear state)
@@ -334,12 +348,12 @@ unfolding SoundOn behind row_of may_stand
 sound_clear t rows state h f =
     let r = reads t (shape.Clear state) f in
     let k = served t (shape.Clear state) state refl r.served in
-    sound_more t rows t.locals _ _ _ (row_of (behind (shape.Clear state) t) (shape.Clear state)) h f.stands (few_locals t rows h) (and_parts _ _ (state_fits t.states state k.0 k.1)).0
+    sound_more t rows t.locals _ _ _ (row_of (behind (shape.Clear state) t) (shape.Clear state)) h f.stands (few_locals t rows h) (none_more (length t.locals)) (and_parts _ _ (state_fits t.states state k.0 k.1)).0
 
 sound_if : (t : Tables) (rows : HandlerRows) (test : List Word) → Sound t rows → is_expr test ≡ true → NoFault t (shape.If test) → SoundOn t rows (shape.If test)
 unfolding SoundOn behind row_of may_stand
 sound_if t rows test h w f =
-    sound_more t rows t.locals _ _ _ (row_of (behind (shape.If test) t) (shape.If test)) h f.stands (few_locals t rows h)
+    sound_more t rows t.locals _ _ _ (row_of (behind (shape.If test) t) (shape.If test)) h f.stands (few_locals t rows h) (none_more (length t.locals))
     (expr_known t t.locals (max t.most (length t.locals)) test w (reads t (shape.If test) f).reads (same_names t.locals) (omega arith))
 
 sound_each : (t : Tables) (rows : HandlerRows) (name state : Word) → Sound t rows → NoFault t (shape.Each name state) → SoundOn t rows (shape.Each name state)
@@ -349,7 +363,7 @@ sound_each t rows name state h f =
     let k = served t (shape.Each name state) state refl r.served in
     let names = with_word (Some name) t.locals in
     let most = max t.most (length names) in
-    sound_more t rows names _ _ _ (row_of (behind (shape.Each name state) t) (shape.Each name state)) h f.stands (one_few t name (room t (shape.Each name state) f.few) r.set)
+    sound_more t rows names _ _ _ (row_of (behind (shape.Each name state) t) (shape.Each name state)) h f.stands (one_few t name (room t (shape.Each name state) f.few) r.set) (with_length name t.locals)
     (and_from (nat_lt (place_in names name) most) _ (name_low names name most (with_mem name t.locals) (omega arith)) (list_fits t.states state k.0 k.1 k.2))
 
 sound_each_pair : (t : Tables) (rows : HandlerRows) (key number state : Word) → Sound t rows → NoFault t (shape.EachPair key number state) → SoundOn t rows (shape.EachPair key number state)
@@ -362,7 +376,10 @@ sound_each_pair t rows key number state h f =
     let most = max t.most (length names) in
     let has_key = with_keeps number one key (with_mem key t.locals) in
     let has_number = with_mem number one in
-    sound_more t rows names _ _ _ (row_of (behind (shape.EachPair key number state) t) (shape.EachPair key number state)) h f.stands (two_few t key number (room t (shape.EachPair key number state) f.few) r.set r.also f.once)
+    let first : length one ≡ max (length t.locals) (suc (place_in one key)) = with_length key t.locals in
+    let both : length names ≡ max (length one) (suc (place_in names number)) = with_length number one in
+    let kept : place_in names key ≡ place_in one key = with_place number one key (with_mem key t.locals) in
+    sound_more t rows names _ _ _ (row_of (behind (shape.EachPair key number state) t) (shape.EachPair key number state)) h f.stands (two_few t key number (room t (shape.EachPair key number state) f.few) r.set r.also f.once) (omega arith)
     (and_from _ _ (and_from (nat_lt (place_in names key) most && nat_lt (place_in names number) most) _
     (and_from (nat_lt (place_in names key) most) (nat_lt (place_in names number) most) (name_low names key most has_key (omega arith)) (name_low names number most has_number (omega arith)))
     (ap not (places_differ names key number has_key has_number f.once)))
@@ -371,19 +388,19 @@ sound_each_pair t rows key number state h f =
 sound_emit : (t : Tables) (rows : HandlerRows) (values : List Word) → Sound t rows → is_exprs values ≡ true → NoFault t (shape.Emit values) → SoundOn t rows (shape.Emit values)
 unfolding SoundOn behind row_of may_stand
 sound_emit t rows values h w f =
-    sound_more t rows t.locals _ _ _ (row_of (behind (shape.Emit values) t) (shape.Emit values)) h f.stands (few_locals t rows h)
+    sound_more t rows t.locals _ _ _ (row_of (behind (shape.Emit values) t) (shape.Emit values)) h f.stands (few_locals t rows h) (none_more (length t.locals))
     (exprs_known t t.locals (max t.most (length t.locals)) values w (reads t (shape.Emit values) f).reads (same_names t.locals) (omega arith))
 
 sound_set : (t : Tables) (rows : HandlerRows) (time : List Word) → Sound t rows → is_expr time ≡ true → NoFault t (shape.Timer time) → SoundOn t rows (shape.Timer time)
 unfolding SoundOn behind row_of may_stand
 sound_set t rows time h w f =
-    sound_more t rows t.locals _ _ _ (row_of (behind (shape.Timer time) t) (shape.Timer time)) h f.stands (few_locals t rows h)
+    sound_more t rows t.locals _ _ _ (row_of (behind (shape.Timer time) t) (shape.Timer time)) h f.stands (few_locals t rows h) (none_more (length t.locals))
     (expr_known t t.locals (max t.most (length t.locals)) time w (reads t (shape.Timer time) f).reads (same_names t.locals) (omega arith))
 
 sound_unset : (t : Tables) (rows : HandlerRows) (time : List Word) → Sound t rows → is_expr time ≡ true → NoFault t (shape.Untimer time) → SoundOn t rows (shape.Untimer time)
 unfolding SoundOn behind row_of may_stand
 sound_unset t rows time h w f =
-    sound_more t rows t.locals _ _ _ (row_of (behind (shape.Untimer time) t) (shape.Untimer time)) h f.stands (few_locals t rows h)
+    sound_more t rows t.locals _ _ _ (row_of (behind (shape.Untimer time) t) (shape.Untimer time)) h f.stands (few_locals t rows h) (none_more (length t.locals))
     (expr_known t t.locals (max t.most (length t.locals)) time w (reads t (shape.Untimer time) f).reads (same_names t.locals) (omega arith))
 
 -- lines of one word
@@ -394,22 +411,26 @@ top_inside p (f ∷ fs) h = lt-ltb 0 (length (f ∷ fs)) (omega arith)
 
 sound_end : (t : Tables) (rows : HandlerRows) → Sound t rows → NoFault t shape.End → SoundOn t rows shape.End
 unfolding SoundOn behind row_of may_stand
-sound_end t rows h f = sound_more t rows t.locals _ _ _ (row_of (behind shape.End t) shape.End) h (and_parts (is_inside t) _ f.stands).0 (few_locals t rows h) (ends (is_inside (behind shape.End t))) where
+sound_end t rows h f = sound_more t rows t.locals _ _ _ (row_of (behind shape.End t) shape.End) h (and_parts (is_inside t) _ f.stands).0 (few_locals t rows h) (none (is_inside (behind shape.End t))) (ends (is_inside (behind shape.End t))) where
+  none : (b : Bool) → length t.locals ≡ max (length t.locals) (some_names (if b then Some EndRow else None))
+  none true = none_more (length t.locals)
+  none false = none_more (length t.locals)
+
   ends : (b : Bool) → SomeFits (row_fits (values_of t) (max t.most (length t.locals)) (kinds_in t.states)) (if b then Some EndRow else None)
   ends true = refl
   ends false = tt
 
 sound_else : (t : Tables) (rows : HandlerRows) → Sound t rows → NoFault t shape.Else → SoundOn t rows shape.Else
 unfolding SoundOn behind row_of may_stand
-sound_else t rows h f = sound_more t rows t.locals _ _ _ (row_of (behind shape.Else t) shape.Else) h (top_inside is_yes t.frames f.stands) (few_locals t rows h) refl
+sound_else t rows h f = sound_more t rows t.locals _ _ _ (row_of (behind shape.Else t) shape.Else) h (top_inside is_yes t.frames f.stands) (few_locals t rows h) (none_more (length t.locals)) refl
 
 sound_with : (t : Tables) (rows : HandlerRows) → Sound t rows → NoFault t shape.With → SoundOn t rows shape.With
 unfolding SoundOn behind row_of may_stand
-sound_with t rows h f = sound_more t rows t.locals _ _ _ (row_of (behind shape.With t) shape.With) h (top_inside is_one t.frames f.stands) (few_locals t rows h) refl
+sound_with t rows h f = sound_more t rows t.locals _ _ _ (row_of (behind shape.With t) shape.With) h (top_inside is_one t.frames f.stands) (few_locals t rows h) (none_more (length t.locals)) refl
 
 sound_both : (t : Tables) (rows : HandlerRows) → Sound t rows → NoFault t shape.Both → SoundOn t rows shape.Both
 unfolding SoundOn behind row_of may_stand
-sound_both t rows h f = sound_more t rows t.locals _ _ _ (row_of (behind shape.Both t) shape.Both) h f.stands (few_locals t rows h) refl
+sound_both t rows h f = sound_more t rows t.locals _ _ _ (row_of (behind shape.Both t) shape.Both) h f.stands (few_locals t rows h) (none_more (length t.locals)) refl
 
 -- a line without fault
 sound_shape : (t : Tables) (rows : HandlerRows) (s : Shape) → Sound t rows → WellShaped s → NoFault t s → SoundOn t rows s
@@ -447,6 +468,8 @@ sound_none = record {
   distinct = refl;
   most = omega arith;
   locals = omega arith;
+  count = refl;
+  all = refl;
   inside = λ q. absurd (false≢true q);
   input = λ q. absurd (false≢true q);
   before = λ q. refl;

@@ -1,5 +1,6 @@
 pub mod Forms
 pub mod Steps
+pub mod Names
 pub mod Links
 pub mod Shown
 pub mod Rows
@@ -7,3 +8,5 @@ pub mod Clean
 pub mod Blocks
 pub mod Programs
 pub mod Laws
+pub mod Spelling
+pub mod Examples

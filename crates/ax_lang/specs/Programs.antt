@@ -12,13 +12,12 @@ use Rattle.ax_syntax.specs.declared.shape.KindWord.TheVariants as word
 use Rattle.ax_syntax.specs.Shapes.{Shape}
 use Rattle.ax_rules.specs.declared.kinds.FaultKind.{FaultKind}
 use Rattle.ax_rules.specs.declared.section.SectionEnd.{SectionEnd}
-use Rattle.ax_rules.specs.declared.section.Reading.{Reading as Section}
-use Rattle.ax_rules.specs.declared.section.Reading.TheVariants as section
 use Rattle.ax_rules.specs.declared.tables.DeclaredState.{DeclaredState}
 use Rattle.ax_rules.specs.declared.tables.Tables.{Tables}
 use Rattle.ax_rules.specs.Kinds.{kind_number}
 use Rattle.ax_rules.specs.Taking.{fault_some, behind_some}
 use Rattle.ax_rules.specs.Sections.{shapes_of, reading_of}
+use Rattle.ax_rules.specs.Sections as section
 use Rattle.ax_lang.specs.declared.program.Program.{Program as CodeProgram}
 use Rattle.ax_lang.specs.declared.step.Row.{Row as CodeRow}
 use Rattle.ax_lang.specs.declared.reader.Handlers.{Handlers}
@@ -53,7 +52,7 @@ pub data Reading : Type 0 where
   Faulty : (line kind : ℕ) → Reading
   Accepted : (program : Program) → Reading
 
-abbrev pub said_by : List Shape → Section → Reading
+abbrev pub said_by : List Shape → section.Reading → Reading
 said_by ls (section.Faulty line kind) = Faulty line (kind_number kind)
 said_by ls (section.Whole tables) = Accepted (program_in tables (rows_of ls))
 

@@ -7,6 +7,7 @@ use Rattle.ax_state.specs.Decls.{shown_states}
 use Rattle.ax_lang.specs.declared.step.Step.{Step}
 use Rattle.ax_lang.specs.declared.program.Program.{Program as CodeProgram}
 use Rattle.ax_lang.specs.Forms.{form_of, text_with, top_of}
+use Rattle.ax_lang.specs.Names.{program_names}
 use Rattle.ax_lang.specs.Steps.{text_at, text_some, stmt_fits}
 
 -- the text from a place of a program on
@@ -21,11 +22,7 @@ shown_program p = record { fields = p.fields; states = shown_states p.decls; row
 abbrev pub shown_kinds : CodeProgram → List Kind
 shown_kinds p = kinds_of (shown_program p).states
 
--- how many local names a handler has at most
-unfoldable pub locals_of : CodeProgram → ℕ
-locals_of p = p.locals
-
 -- what stands at a place: nothing, or a statement that fits and names lower places alone
 abbrev pub StandsAt : CodeProgram → ℕ → Option Step → Type 0
 StandsAt p place None = text_from p place ≡ Stop
-StandsAt p place (Some s) = (text_from p place ≡ text_with (text_from p) (form_of s.stmt) s.next) × (top_of s < place) × (stmt_fits (shown_program p).fields (locals_of p) (shown_kinds p) s.stmt ≡ true)
+StandsAt p place (Some s) = (text_from p place ≡ text_with (text_from p) (form_of s.stmt) s.next) × (top_of s < place) × (stmt_fits (shown_program p).fields (program_names (shown_program p)) (shown_kinds p) s.stmt ≡ true)

@@ -1,14 +1,17 @@
 //! Laws of the language, each the contract of an empty function.
-ghost use Rattle.std.specs.Prelude.{◌≡◌, ◌≤◌, List, true};
+ghost use Rattle.std.specs.Prelude.{◌≡◌, ◌≤◌, ℕ, List, true};
 ghost use Rattle.ax_base.specs.declared.lines.Line.{Line};
 ghost use Rattle.ax_syntax.specs.Words.{Word};
+ghost use Rattle.ax_text.specs.Exprs.{Expr as AnyExpr};
 ghost use Rattle.ax_text.specs.Prints.{is_accepted};
 ghost use Rattle.ax_text.specs.Programs.{Program, program_width, text_or_stop};
 ghost use Rattle.ax_text.specs.Valid.{IsValid};
 ghost use Rattle.ax_lang.specs.declared.program.Program.{Program as AnyProgram};
 ghost use Rattle.ax_syntax.specs.Shapes.{Shape as LineShape};
+ghost use Rattle.ax_expr.specs.Grammar.{Derivation};
 ghost use Rattle.ax_lang.specs.Blocks.{CleanLinesHold};
 ghost use Rattle.ax_lang.specs.Laws.{AreApart, HasTree};
+ghost use Rattle.ax_lang.specs.Spelling.{TestsForm, ReadsSpelled, SpellOne, LimitsTell, KnownSpell, LineSpells};
 ghost use Rattle.ax_lang.specs.Programs.{Accepted, program_of};
 ghost use Rattle.ax_lang.specs.Shown.{shown_program};
 ghost use Rattle.ax_rules.specs.declared.section.SectionEnd.{SectionEnd};
@@ -17,6 +20,39 @@ ghost use Rattle.ax_rules.specs.declared.section.SectionEnd.{SectionEnd};
 #[tactic(auto, using(crate::proofs::TokenLemmas::has_tree))]
 pub fn expression_law()
     ensures { (locals words : List Word) → HasTree locals words }
+{}
+
+/// Words pass the test of expressions exactly where the grammar spells an expression with them, with any parentheses,
+/// whatever their operands stand for.
+#[tactic(auto, using(crate::proofs::SpellingLemmas::tests_form))]
+pub fn form_law()
+    ensures { (words : List Word) → TestsForm words }
+{}
+
+/// Words spell an expression by the grammar, with any parentheses, exactly where they pass the test, speak only of local
+/// names and values that are there, and are read as this expression. So they spell at most one.
+pub fn spelling_law()
+    ensures exact { (locals : List Word) (values : ℕ) (words : List Word) (tree : AnyExpr) → ReadsSpelled locals values words tree }
+    ensures one { (locals : List Word) (values : ℕ) (words : List Word) → SpellOne locals values words }
+{}
+
+/// Words of an expression are refused as too deep exactly where more than 32 parentheses stand in one another, and as too
+/// many exactly where there are more than 256 tokens.
+#[tactic(auto, using(crate::proofs::DepthLemmas::limits_tell))]
+pub fn limit_law()
+    ensures { (words : List Word) (spelling : Derivation) → LimitsTell words spelling }
+{}
+
+/// Behind any lines, words without a state's name are refused neither for their form nor for an unknown name or value
+/// exactly where they spell an expression.
+pub fn known_law()
+    ensures { (before : List LineShape) (words : List Word) → KnownSpell before words }
+{}
+
+/// The words of each expression of a line without fault spell the expression that its row has.
+#[tactic(auto, using(crate::proofs::LineLemmas::line_spells))]
+pub fn line_law()
+    ensures { (before : List LineShape) (line : LineShape) → LineSpells before line }
 {}
 
 /// Every program is valid: everything exists that its statements and their expressions speak of.

@@ -10,6 +10,7 @@ ghost use Rattle.ax_text.specs.Rows.{Body, wide, follow, all_ok, text_of};
 ghost use Rattle.ax_text.specs.Valid.{names_of, text_fits, timer_fits};
 ghost use Rattle.ax_state.specs.Decls.{kinds, shown_states};
 ghost use Rattle.ax_lang.specs.Forms.{shown_row};
+ghost use Rattle.ax_lang.specs.Names.{text_names, names_some, rows_names, program_names};
 ghost use Rattle.ax_lang.specs.Steps.{row_fits, rows_some, rows_width, text_if, text_at, text_some, steps_fit};
 
 use crate::link::{link, link_some};
@@ -39,19 +40,20 @@ pub struct Program {
     ghost timer_valid: { timer_fits locals (kinds decls) (text_some steps.items timer) ≡ true },
     ghost row_apart: { is_accepted (text_at steps.items row) ≡ true },
     ghost timer_apart: { is_accepted (text_or_stop (text_some steps.items timer)) ≡ true },
+    ghost numbered: { locals ≡ max (text_names (text_at steps.items row)) (names_some (text_some steps.items timer)) },
     ghost counted: { width ≡ max 1 (max (text_width (text_at steps.items row)) (width_some (text_some steps.items timer))) },
     ghost narrow: { width ≤ 16 },
 }
 
 impl Program {
-    ghost use Rattle.ax_lang.specs.Shown.{shown_program, shown_kinds, locals_of, text_from, StandsAt};
+    ghost use Rattle.ax_lang.specs.Shown.{shown_program, shown_kinds, text_from, StandsAt};
 
-    /// The program of these lines; `width` is how many requests they may have out at once.
+    /// The program of these lines; `locals` is how many local names a handler of them has at most, and `width` how many requests they may have out at once.
     ///
     /// Conditions: at most 16 values, 64 states and 256 local names; the states' names are names and differ; what the
     /// lines and their expressions speak of exists, where those of `on timer` have no values of a row; each handler's
-    /// blocks are whole and its arms silent and apart; and `width` is at most 16.
-    #[tactic(auto, unfolding(crate::specs::Shown::shown_program), using(crate::proofs::FitLemmas::rows_more, crate::proofs::ProgramLemmas::row_text, crate::proofs::ProgramLemmas::row_valid, crate::proofs::ProgramLemmas::timer_valid, crate::proofs::ProgramLemmas::row_apart, crate::proofs::ProgramLemmas::timer_apart, crate::proofs::ProgramLemmas::counted))]
+    /// blocks are whole and its arms silent and apart; and `locals` and `width` are those of the lines, `width` at most 16.
+    #[tactic(auto, unfolding(crate::specs::Shown::shown_program), using(crate::proofs::FitLemmas::rows_more, crate::proofs::ProgramLemmas::row_text, crate::proofs::ProgramLemmas::row_valid, crate::proofs::ProgramLemmas::timer_valid, crate::proofs::ProgramLemmas::row_apart, crate::proofs::ProgramLemmas::timer_apart, crate::proofs::ProgramLemmas::counted, crate::proofs::CountLemmas::numbered))]
     pub(crate) fn new(
         alloc: Global,
         fields: u8,
@@ -72,6 +74,7 @@ impl Program {
         requires timer { list_all (row_fits 0 locals (kinds decls)) (rows_some timer) ≡ true }
         requires timer_blocks { follow (rows_some timer) (wide Body 0 0 ∷ []) ≡ true }
         requires timer_arms { all_ok (rows_some timer) [] ≡ true }
+        requires names { locals ≡ max (rows_names (map shown_row row.items)) (rows_names (rows_some timer)) }
         requires width { width ≡ max 1 (max (rows_width (map shown_row row.items)) (rows_width (rows_some timer))) }
         requires narrow { width ≤ 16 }
         ensures { IfOk result (λ p. shown_program p ≡ record { fields = fields; states = shown_states decls; row = text_of (map shown_row row.items); timer = text_if timer }) }
@@ -132,10 +135,10 @@ impl Program {
         self.timer.is_some()
     }
 
-    /// How many local names a handler has at most, from 0 to 256.
-    #[tactic(auto, unfolding(crate::specs::Shown::locals_of))]
+    /// How many local names a handler assigns at most, from 0 to 256: they are the numbers below this, and no statement reads another.
+    #[tactic(auto, unfolding(crate::specs::Shown::shown_program))]
     pub fn locals(&self) -> usize
-        ensures value { result ≡ locals_of self.now }
+        ensures value { result ≡ program_names (shown_program self.now) }
         ensures small { result ≤ 256 }
     {
         self.locals

@@ -9,12 +9,12 @@ ghost use Rattle.ax_machine.specs.Entries.{Out, says, text_of, entry_text, numbe
 ghost use Rattle.ax_state.specs.KeyCells.{shown_cells, cell_kinds};
 ghost use Rattle.ax_time.specs.Timers.{PutsTimes, times_of};
 ghost use Rattle.ax_lang.specs.Shown as lang;
-ghost use Rattle.ax_future.specs.Talks.{facts_in};
-ghost use Rattle.ax_future.specs.Machines.{IsSound};
+ghost use Rattle.ax_future.specs.Talks.{known_in};
+ghost use Rattle.ax_future.specs.Machines.{IsSound, said_by};
 ghost use Rattle.ax_plain.specs.Handler.{shown_run_facts, run_from, TakesTurn, LeavesOthers};
 
 use ax_base::{Duplicate, NoMemory, Nums, Sink, SinkFault, write_all};
-use ax_future::{Facts, Handler, Machine, TimerOp, Turn};
+use ax_future::{Handler, Known, Machine, TimerOp, Turn};
 use ax_keys::Key;
 use ax_lang::Program;
 use ax_state::KeyCells;
@@ -33,26 +33,19 @@ pub struct RunFacts<'a> {
     pub values: &'a [i64],
 }
 
-/// Room that the runs of handlers need, kept from one run to the next: for the text of one line, for a machine and what it
-/// knows, and for what a turn says.
+/// Room that the runs of handlers need, kept from one run to the next: for the text of one line, and for a machine.
 #[derive(Drop)]
 pub struct Room {
-    alloc: Global,
     text: Vec<u8>,
-    known: Option<Facts>,
     machine: Machine,
-    turn: Turn,
 }
 
 impl Room {
     /// Empty room. A run that needs more than those before takes more.
     pub fn new(alloc: Global) -> Room {
         Room {
-            alloc,
             text: Vec::new(alloc),
-            known: None,
             machine: Machine::new(alloc),
-            turn: Turn::new(alloc),
         }
     }
 
@@ -196,75 +189,54 @@ fn do_turn<K: Sink>(
     }
 }
 
-// These values, in the memory of a list that is no longer needed.
-fn refilled(list: Nums, values: &[i64]) -> Result<Nums, NoMemory>
-    ensures { IfOk result (λ list. list ≡ values.now) }
-{
-    let mut items = list.into_vec();
-    items.clear();
-    match items.extend_from_slice(values) {
-        Ok(()) => Ok(Nums::from_vec(items)),
-        Err(_) => Err(NoMemory),
-    }
-}
-
-// The key, which is copied only where it differs from the kept one.
-fn key_of(alloc: Global, kept: Key, key: &Key) -> Result<Key, NoMemory>
-    ensures { IfOk result (λ own. own ≡ key.now) }
-{
-    if kept == *key {
-        Ok(kept)
-    } else {
-        key.copy(alloc)
-    }
-}
-
-// What a machine knows, in the memory of what the one before knew.
-fn facts_of(
-    alloc: Global,
-    kept: Option<Facts>,
+// Does what a machine said last. After an error the sink took a prefix of the lines.
+fn do_said<K: Sink>(
+    text: &mut Vec<u8>,
     key: &Key,
-    facts: &RunFacts<'_>,
-) -> Result<Facts, NoMemory>
-    ensures facts { IfOk result (λ owned. facts_in owned ≡ shown_run_facts facts.now) }
-    ensures key { IfOk result (λ owned. owned.key ≡ key.now) }
+    machine: &Machine,
+    timers: &mut Timers,
+    out: &mut K,
+) -> Result<(), SinkFault>
+    ensures times { OnOk result (PutsTimes timers.old timers.new key.now (times_after (said_by machine.now).timer_ops (times_of timers.old key.now))) }
+    ensures others { LeavesOthers key.now timers.old timers.new }
+    ensures lines { OnOk result (Appends (K.holds out.old) (K.holds out.new) (text_of (says key.now (said_by machine.now).outs))) }
+    ensures part { OnErr result (AppendsSome (K.holds out.old) (K.holds out.new) (text_of (says key.now (said_by machine.now).outs))) }
+    ensures counts { OwnCounts (K.counts out.old) (K.counts out.new) result }
+    ensures base { K.base out.new ≡ K.base out.old }
 {
-    match kept {
-        Some(kept) => Ok(Facts {
-            key: key_of(alloc, kept.key, key)?,
-            time: facts.time,
-            wm: facts.wm,
-            values: refilled(kept.values, facts.values)?,
-        }),
-        None => Ok(Facts {
-            key: key.copy(alloc)?,
-            time: facts.time,
-            wm: facts.wm,
-            values: Nums::from_slice(alloc, facts.values)?,
-        }),
+    do_turn(text, key, machine.said(), timers, out)
+}
+
+// What the statements of a handler may speak of.
+fn known_of<'a>(facts: &RunFacts<'a>) -> Known<'a>
+    ensures { known_in result ≡ shown_run_facts facts.now }
+{
+    Known {
+        time: facts.time,
+        wm: facts.wm,
+        values: facts.values,
     }
 }
 
-// Answers what the least slot that waits has asked, and runs on; what is said then is in the turn. The answer is false exactly
+// Answers what the least slot that waits has asked, and runs on; the machine has what is said then. The answer is false exactly
 // where nothing waits: then it is done.
 fn next_turn(
     machine: &mut Machine,
     program: &Program,
-    facts: &Facts,
+    facts: &Known<'_>,
     cells: &mut KeyCells,
-    turn: &mut Turn,
 ) -> Result<bool, NoMemory>
     requires sound { IsSound program.now machine.old }
     requires kinds { cell_kinds cells.old ≡ lang.shown_kinds program.now }
     ensures sound { OnOk result (IsSound program.now machine.new) }
     ensures kinds { cell_kinds cells.new ≡ lang.shown_kinds program.now }
-    ensures turn { IfOk result (λ more. TakesTurn (facts_in facts.now) program.now machine.old machine.new (shown_cells cells.old) (shown_cells cells.new) turn.new more) }
+    ensures turn { IfOk result (λ more. TakesTurn (known_in facts.now) program.now machine.old machine.new (shown_cells cells.old) (shown_cells cells.new) (said_by machine.new) more) }
 {
     let Some((slot, request)) = machine.least_waiting() else {
         return Ok(false);
     };
     let answer = cells.apply(request)?;
-    machine.resume_into(program, facts, slot, answer, turn)?;
+    machine.take_answer(program, facts, slot, answer)?;
     Ok(true)
 }
 
@@ -294,22 +266,16 @@ pub fn run_handler<K: Sink>(
     ensures counts { OwnCounts (K.counts out.old) (K.counts out.new) result }
     ensures base { K.base out.new ≡ K.base out.old }
 {
-    let Ok(known) = facts_of(room.alloc, room.known.take(), key, facts) else {
-        return Err(SinkFault::NoMemory);
-    };
-    let Ok(()) = room
-        .machine
-        .start_into(program, handler, &known, &mut room.turn)
-    else {
+    let known = known_of(facts);
+    let Ok(()) = room.machine.restart(program, handler, &known) else {
         return Err(SinkFault::NoMemory);
     };
     'turns: loop {
-        do_turn(&mut room.text, key, &room.turn, timers, out)?;
-        let Ok(more) = next_turn(&mut room.machine, program, &known, cells, &mut room.turn) else {
+        do_said(&mut room.text, key, &room.machine, timers, out)?;
+        let Ok(more) = next_turn(&mut room.machine, program, &known, cells) else {
             return Err(SinkFault::NoMemory);
         };
         if !more {
-            room.known = Some(known);
             return Ok(());
         }
     }

@@ -7,12 +7,10 @@ use Rattle.ax_rules.specs.declared.kinds.FaultKind.{FaultKind}
 use Rattle.ax_rules.specs.declared.kinds.FaultKind.TheVariants as fault
 use Rattle.ax_rules.specs.declared.tables.Tables.{Tables}
 use Rattle.ax_rules.specs.declared.section.SectionEnd.{SectionEnd}
-use Rattle.ax_rules.specs.declared.section.Reading.{Reading}
-use Rattle.ax_rules.specs.declared.section.Reading.TheVariants as reading
 use Rattle.ax_rules.specs.Lines.{tables_of}
 use Rattle.ax_rules.specs.Faults.{fault_by}
 use Rattle.ax_rules.specs.Taking.{fault_some, behind_some, Steps}
-use Rattle.ax_rules.specs.Sections.{shape_in, fault_at, with_line, shapes_from, shapes_of, or_fault, is_whole, ended, read_from, reading_of}
+use Rattle.ax_rules.specs.Sections.{Reading, Whole, Faulty, shape_in, fault_at, with_line, shapes_from, shapes_of, or_fault, is_whole, ended, read_from, reading_of}
 use Rattle.ax_rules.proofs.FaultLemmas.{behind_line}
 
 shapes_last : (ls : List Line) (before : List Shape) (l : Line) → shapes_from before (ls ++ l ∷ []) ≡ with_line (shape_in l) (shapes_from before ls)
@@ -74,7 +72,7 @@ line_taken ls i l end t t' h is on taken =
     }
 
 -- a line's fault is the section's
-pub fault_told : (ls : List Line) (i : ℕ) (l : Line) (end : SectionEnd) (t : Tables) (kind : FaultKind) → i < length ls → l ≡ get_or ls i l → ReadsOn ls end i t → fault_some t (shape_in l) ≡ Some kind → reading.Faulty l.number kind ≡ reading_of ls end
+pub fault_told : (ls : List Line) (i : ℕ) (l : Line) (end : SectionEnd) (t : Tables) (kind : FaultKind) → i < length ls → l ≡ get_or ls i l → ReadsOn ls end i t → fault_some t (shape_in l) ≡ Some kind → Faulty l.number kind ≡ reading_of ls end
 fault_told ls i l end t kind h is on told =
     let before : List Shape = shapes_of (take i ls) in
     let k : Line = get_or ls i l in
@@ -82,7 +80,7 @@ fault_told ls i l end t kind h is on told =
     let here : fault_some t s ≡ Some kind = subst (λ (m : Line). fault_some t (shape_in m) ≡ Some kind) is told in
     let some : fault_at before s ≡ Some kind = sym (ap (λ (u : Tables). fault_some u s) on.tables ∙ fault_is before s) ∙ here in
     let go : Reading = read_from (shapes_of (take (i + 1) ls)) (drop (i + 1) ls) end in
-    ap (λ (m : Line). reading.Faulty m.number kind) is
+    ap (λ (m : Line). Faulty m.number kind) is
     ∙ sym (sym on.read ∙ (read_more ls i l end h ∙ ap (λ (o : Option FaultKind). or_fault o k.number go) some))
 
 read_end : (before : List Shape) (end : SectionEnd) → read_from before [] end ≡ ended before end
@@ -94,22 +92,14 @@ at_end ls i end t h on =
     let before : List Shape = shapes_of (take i ls) in
     sym on.read ∙ (ap (λ (rest : List Line). read_from before rest end) (drop_all i ls h) ∙ read_end before end)
 
-ended_as : (ls : List Shape) (end : SectionEnd) (t : Tables) (b : Bool) → t ≡ tables_of ls → (is_whole t && end.found) ≡ b → ended ls end ≡ (if b then reading.Whole t else reading.Faulty end.line fault.NoEnd)
+ended_as : (ls : List Shape) (end : SectionEnd) (t : Tables) (b : Bool) → t ≡ tables_of ls → (is_whole t && end.found) ≡ b → ended ls end ≡ (if b then Whole t else Faulty end.line fault.NoEnd)
 unfolding ended
 ended_as ls end t b e h =
-    ap (λ (u : Tables). if is_whole u && end.found then reading.Whole u else reading.Faulty end.line fault.NoEnd) (sym e)
-    ∙ ap (λ (c : Bool). if c then reading.Whole t else reading.Faulty end.line fault.NoEnd) h
+    ap (λ (u : Tables). if is_whole u && end.found then Whole u else Faulty end.line fault.NoEnd) (sym e)
+    ∙ ap (λ (c : Bool). if c then Whole t else Faulty end.line fault.NoEnd) h
 
-pub whole : (ls : List Line) (i : ℕ) (end : SectionEnd) (t : Tables) → length ls ≤ i → ReadsOn ls end i t → (is_whole t && end.found) ≡ true → reading.Whole t ≡ reading_of ls end
+pub whole : (ls : List Line) (i : ℕ) (end : SectionEnd) (t : Tables) → length ls ≤ i → ReadsOn ls end i t → (is_whole t && end.found) ≡ true → Whole t ≡ reading_of ls end
 whole ls i end t h on w = sym (at_end ls i end t h on ∙ ended_as (shapes_of (take i ls)) end t true on.tables w)
 
-pub due : (ls : List Line) (i : ℕ) (end : SectionEnd) (t : Tables) → length ls ≤ i → ReadsOn ls end i t → (is_whole t && end.found) ≡ false → reading.Faulty end.line fault.NoEnd ≡ reading_of ls end
+pub due : (ls : List Line) (i : ℕ) (end : SectionEnd) (t : Tables) → length ls ≤ i → ReadsOn ls end i t → (is_whole t && end.found) ≡ false → Faulty end.line fault.NoEnd ≡ reading_of ls end
 due ls i end t h on w = sym (at_end ls i end t h on ∙ ended_as (shapes_of (take i ls)) end t false on.tables w)
-
-pub not_first : (a b : Bool) → a ≡ false → (a && b) ≡ false
-not_first true b h = cc
-not_first false b h = refl
-
-pub not_second : (a b : Bool) → b ≡ false → (a && b) ≡ false
-not_second true b h = h
-not_second false b h = refl

@@ -7,10 +7,13 @@ use Rattle.ax_rules.specs.declared.kinds.FaultKind.{FaultKind}
 use Rattle.ax_rules.specs.declared.kinds.FaultKind.TheVariants as fault
 use Rattle.ax_rules.specs.declared.tables.Tables.{Tables}
 use Rattle.ax_rules.specs.declared.section.SectionEnd.{SectionEnd}
-use Rattle.ax_rules.specs.declared.section.Reading.{Reading}
-use Rattle.ax_rules.specs.declared.section.Reading.TheVariants as reading
 use Rattle.ax_rules.specs.Lines.{tables_of}
 use Rattle.ax_rules.specs.Faults.{fault_by, is_inside}
+
+-- no line has a fault and nothing is due at the end, or the first fault: the least line that has one, and its first kind there
+pub data Reading : Type 0 where
+  Whole : (tables : Tables) → Reading
+  Faulty : (line : ℕ) → (kind : FaultKind) → Reading
 
 abbrev pub shape_in : Line → Option Shape
 shape_in l = shape_of (words_of l.text)
@@ -34,14 +37,14 @@ shapes_of lines = shapes_from [] lines
 
 abbrev pub or_fault : Option FaultKind → ℕ → Reading → Reading
 or_fault None line go = go
-or_fault (Some kind) line go = reading.Faulty line kind
+or_fault (Some kind) line go = Faulty line kind
 
 -- nothing is due at the end
 unfoldable pub is_whole : Tables → Bool
 is_whole t = (is_some t.fields && t.row) && not (is_inside t)
 
 unfoldable pub ended : List Shape → SectionEnd → Reading
-ended ls end = if is_whole (tables_of ls) && end.found then reading.Whole (tables_of ls) else reading.Faulty end.line fault.NoEnd
+ended ls end = if is_whole (tables_of ls) && end.found then Whole (tables_of ls) else Faulty end.line fault.NoEnd
 
 -- the lines before a line, that line and those behind it, and the end of the section
 unfoldable pub read_from : List Shape → List Line → SectionEnd → Reading

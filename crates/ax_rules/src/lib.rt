@@ -1,5 +1,4 @@
-//! The rules of a program: whether a line may follow the lines before it, what it adds to them, and the first fault of a
-//! program's section.
+//! The rules of a program: whether a line may follow the lines before it, what it adds to them, and its first fault there.
 #![tactic(auto)]
 
 mod blocks;
@@ -14,5 +13,5 @@ mod taking;
 pub use blocks::{Frame, Frames, Part, Print};
 pub use kinds::FaultKind;
 pub use laws::{arm_law, note_law, pass_law, rows_law, width_law};
-pub use section::{Reading, SectionEnd, read_section};
+pub use section::SectionEnd;
 pub use tables::{DeclaredState, Tables};

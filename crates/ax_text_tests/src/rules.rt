@@ -1,23 +1,9 @@
 //! First faults of programs of the whole language.
-use crate::sections::{add_numbered, add_text, named, section};
+use crate::sections::{
+    add_numbered, add_text, fault_in, fault_of, first_wrong, program_of, section,
+};
 use ax_base::{Line, NoMemory};
-use ax_rules::{Reading, SectionEnd, read_section};
 use std::alloc::Global;
-
-// The line and kind of the first fault; 0 and 0 where there is none.
-fn fault_of(alloc: Global, lines: &[Line], found: bool) -> Result<(u64, u8), NoMemory> {
-    let before = lines.len() as u64;
-    let line = before.wrapping_add(1);
-    match read_section(alloc, lines, SectionEnd { line, found })? {
-        Reading::Whole(_) => Ok((0, 0)),
-        Reading::Faulty { line, kind } => Ok((line, kind.number())),
-    }
-}
-
-fn fault_in(alloc: Global, text: &str, found: bool) -> Result<(u64, u8), NoMemory> {
-    let lines = section(alloc, text)?;
-    fault_of(alloc, &lines, found)
-}
 
 // A line of these tables has a program with `;` between its lines, and behind `|` the line and kind of its first fault;
 // 0 and 0 where there is none.
@@ -231,21 +217,6 @@ input 0;on row;each a a in z|3 3
 input 0;state l list;on row;x = get l or z|4 2
 input 0;state s value;on row;both;emit s|5 4
 input 0;on row;both;let a = 1;with;emit a|6 6";
-
-// The first line of a table whose program has another fault.
-fn first_wrong(alloc: Global, table: &str) -> Option<usize> {
-    let mut at: usize = 0;
-    for case in table.lines() {
-        let mut parts = case.split('|');
-        let text = parts.next().unwrap_or("");
-        let expected = named(parts.next().unwrap_or(""));
-        if fault_in(alloc, text, true).unwrap_or((99, 99)) != expected {
-            return Some(at);
-        }
-        at = at.wrapping_add(1);
-    }
-    None
-}
 
 #[test]
 fn first_faults(rt: HostRuntime) {
@@ -488,16 +459,11 @@ fn limits(rt: HostRuntime) {
     }
 }
 
-// The most local names of a handler, and the greatest width of one.
-fn most_and_widest(alloc: Global, text: &str) -> Result<(usize, usize), NoMemory> {
-    let lines = section(alloc, text)?;
-    let end = SectionEnd {
-        line: 99,
-        found: true,
-    };
-    match read_section(alloc, &lines, end)? {
-        Reading::Whole(tables) => Ok((tables.most, tables.widest)),
-        Reading::Faulty { .. } => Ok((99, 99)),
+// How many local names a handler has at most, and the width.
+fn names_and_width(alloc: Global, text: &str) -> (usize, u8) {
+    match program_of(alloc, text) {
+        Some(program) => (program.locals(), program.width()),
+        None => (99, 99),
     }
 }
 
@@ -505,7 +471,7 @@ fn most_and_widest(alloc: Global, text: &str) -> Result<(usize, usize), NoMemory
 fn widths_and_names(rt: HostRuntime) {
     let alloc = rt.alloc();
     let cases = [
-        ("input 0;on row;emit 1;end", (0, 0)),
+        ("input 0;on row;emit 1;end", (0, 1)),
         (
             "input 0;state s value;on row;x = get s or 0;y = get s or 0;end",
             (2, 1),
@@ -524,6 +490,6 @@ fn widths_and_names(rt: HostRuntime) {
         ),
     ];
     for (text, expected) in cases {
-        assert_eq!(rt; most_and_widest(alloc, text).unwrap_or((98, 98)), expected);
+        assert_eq!(rt; names_and_width(alloc, text), expected);
     }
 }

@@ -52,8 +52,8 @@ pub fn section(alloc: Global, text: &str) -> Result<Vec<Line>, NoMemory> {
     Ok(lines)
 }
 
-// The line and kind of the first fault; 0 and 0 where there is none.
-fn fault_of(alloc: Global, lines: &[Line], found: bool) -> Result<(u64, u8), NoMemory> {
+/// The line and kind of the first fault; 0 and 0 where there is none.
+pub fn fault_of(alloc: Global, lines: &[Line], found: bool) -> Result<(u64, u8), NoMemory> {
     let before = lines.len() as u64;
     let line = before.wrapping_add(1);
     match read_program(alloc, lines, SectionEnd { line, found }) {
@@ -63,7 +63,8 @@ fn fault_of(alloc: Global, lines: &[Line], found: bool) -> Result<(u64, u8), NoM
     }
 }
 
-fn fault_in(alloc: Global, text: &str, found: bool) -> Result<(u64, u8), NoMemory> {
+/// The same of a text in which `;` ends a line.
+pub fn fault_in(alloc: Global, text: &str, found: bool) -> Result<(u64, u8), NoMemory> {
     let lines = section(alloc, text)?;
     fault_of(alloc, &lines, found)
 }
@@ -190,16 +191,16 @@ input 1;state s map|3 10
 input 1;on row;if 1|4 10
 input 1;on row;both|4 10";
 
-/// The line and kind that a table names.
-pub fn named(fault: &str) -> (u64, u8) {
+// The line and kind that a table names.
+fn named(fault: &str) -> (u64, u8) {
     let mut words = fault.split(' ');
     let line = words.next().unwrap_or("").parse::<u64>().unwrap_or(98);
     let kind = words.next().unwrap_or("").parse::<u8>().unwrap_or(98);
     (line, kind)
 }
 
-// The first line of a table whose program has another fault.
-fn first_wrong(alloc: Global, table: &str) -> Option<usize> {
+/// The first line of a table whose program has another fault.
+pub fn first_wrong(alloc: Global, table: &str) -> Option<usize> {
     let mut at: usize = 0;
     for case in table.lines() {
         let mut parts = case.split('|');
@@ -380,8 +381,8 @@ fn parts(program: &Program, place: usize) -> (usize, usize) {
     }
 }
 
-// The program of a text without fault.
-fn program_of(alloc: Global, text: &str) -> Option<Program> {
+/// The program of a text without fault.
+pub fn program_of(alloc: Global, text: &str) -> Option<Program> {
     let lines = section(alloc, text).ok()?;
     let end = SectionEnd {
         line: 99,

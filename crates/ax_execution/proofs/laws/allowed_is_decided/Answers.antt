@@ -1,7 +1,7 @@
 use Rattle.ax_execution.proofs.Handlers.{Good, handles}
 use Rattle.ax_execution.proofs.Orderly.{always_orderly}
 use Rattle.ax_execution.specs.Machine.{machine_of}
-use Rattle.ax_execution.proofs.RunTests.{allowed_is, allowed_so, is_run}
+use Rattle.ax_execution.proofs.RunTests.{allowed_is, allowed_so, is_run, run_passes}
 use Rattle.ax_execution.proofs.laws.allowed_is_decided.Goals as goal
 
 pub returns-clause-passes : goal.returns-clause-passes
@@ -12,3 +12,6 @@ returns-clause-is_so c r g p from es e accepted fits h = allowed_is r (machine_o
 
 pub returns-clause-run : goal.returns-clause-run
 returns-clause-run c r g p from es accepted fits h = is_run g p Good (handles p accepted) from fits r es h
+
+pub returns-clause-is_passed : goal.returns-clause-is_passed
+returns-clause-is_passed c r g p es m h = run_passes r g p es m h

@@ -3,14 +3,14 @@ use Rattle.ax_text.specs.Controls.{Rest, Begin}
 use Rattle.ax_lang.specs.Forms.{Form, form_of, shown_loop, text_with}
 use Rattle.ax_lang.specs.Shown.{text_from}
 use Rattle.ax_future.specs.Nodes.{cursor_in}
-use Rattle.ax_future.specs.Talks.{talk_of, facts_in}
+use Rattle.ax_future.specs.Talks.{talk_of, known_in}
 use Rattle.ax_future.specs.Moves.{Asks, Splits}
 use Rattle.ax_future.proofs.MoveLemmas.{each_asks, both_splits}
 use Rattle.ax_future.proofs.moves.take_step.Goals as goal
 
 pub returns-in_ok-put-in-Each-clause-moves : goal.returns-in_ok-put-in-Each-clause-moves
 returns-in_ok-put-in-Each-clause-moves c p =
-    let f = facts_in c.args.facts.now in
+    let f = known_in c.args.facts.now in
     let k = cursor_in p c.args.cursor.now.items in
     let k' = cursor_in p c.put.new.cursor.items in
     let t = talk_of c.args.going.now in
@@ -21,7 +21,7 @@ returns-in_ok-put-in-Each-clause-moves c p =
 
 pub returns-in_ok-put-in-Both-clause-moves : goal.returns-in_ok-put-in-Both-clause-moves
 returns-in_ok-put-in-Both-clause-moves c p =
-    let f = facts_in c.args.facts.now in
+    let f = known_in c.args.facts.now in
     let k = cursor_in p c.args.cursor.now.items in
     let k' = cursor_in p c.put-in-Both.new.cursor.items in
     let t = talk_of c.args.going.now in

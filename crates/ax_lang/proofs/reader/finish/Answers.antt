@@ -6,6 +6,7 @@ use Rattle.ax_text.specs.Rows.{Row, follow, all_ok}
 use Rattle.ax_state.specs.Decls.{kinds}
 use Rattle.ax_rules.specs.declared.tables.DeclaredState.{DeclaredState}
 use Rattle.ax_lang.specs.Forms.{shown_row}
+use Rattle.ax_lang.specs.Names.{rows_names}
 use Rattle.ax_lang.specs.Steps.{row_fits}
 use Rattle.ax_lang.specs.Blocks.{begun, counted}
 use Rattle.ax_lang.specs.Programs.{state_in, shown_handlers, fields_or}
@@ -72,6 +73,11 @@ new-requires-clause-timer_blocks c =
 pub new-requires-clause-timer_arms : goal.new-requires-clause-timer_arms
 new-requires-clause-timer_arms c =
     subst (λ (rs : List Row). all_ok rs [] ≡ true) (sym c.timer_if-timer.ensures.rows) (finished c.args.tables (shown_handlers c.args.handlers) c.requires.clean c.requires.whole).timer_ok
+
+pub new-requires-clause-names : goal.new-requires-clause-names
+new-requires-clause-names c =
+    let s = (finished c.args.tables (shown_handlers c.args.handlers) c.requires.clean c.requires.whole).sound in
+    subst (λ (rs : List Row). c.args.tables.most ≡ max (rows_names (map shown_row c.args.handlers.row.items)) (rows_names rs)) (sym c.timer_if-timer.ensures.rows) s.all
 
 pub new-requires-clause-width : goal.new-requires-clause-width
 new-requires-clause-width c =

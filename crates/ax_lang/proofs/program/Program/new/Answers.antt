@@ -4,6 +4,7 @@ use Rattle.ax_state.specs.Decls.{kinds}
 use Rattle.ax_lang.specs.Forms.{shown_row}
 use Rattle.ax_lang.specs.Steps.{rows_some, text_at, steps_fit}
 use Rattle.ax_lang.proofs.FitLemmas.{rows_more}
+use Rattle.ax_lang.proofs.CountLemmas.{numbered}
 use Rattle.ax_lang.proofs.ProgramLemmas.{row_text, row_valid, timer_valid, row_apart, timer_apart, counted}
 use Rattle.ax_lang.proofs.program.Program.new.Goals as goal
 
@@ -31,6 +32,7 @@ invariant_of-result c =
       timer_valid = timer_valid locals ks due more timer c.in_ok-timer.ensures.text c.requires.timer;
       row_apart = row_apart rows more row text c.requires.row_arms;
       timer_apart = timer_apart due more timer c.in_ok-timer.ensures.text c.requires.timer_arms;
+      numbered = numbered locals rows due more row timer text c.in_ok-timer.ensures.text c.requires.row_blocks c.requires.timer_blocks c.requires.names;
       counted = counted c.args.width rows due more row timer text c.in_ok-timer.ensures.text c.requires.row_blocks c.requires.timer_blocks c.requires.width;
       narrow = c.requires.narrow;
     }
