@@ -1,0 +1,60 @@
+-- The flow of the requests where a row comes.
+use Rattle.std.proofs.Common.{◌≡◌, ◌≢◌, ℕ, zero, suc, ◌+◌, nat_eq, ℤ, List, [], ◌∷◌, ◌++◌, length, Bool, true, false, cond, ◌&&◌, if◌then◌else◌, Option, Some, None, is_none, refl, sym, ap, ap₂, ◌∙◌, subst, arith, eqb-true}
+use Rattle.std.specs.List.{Contains}
+use Rattle.std.proofs.lemmas.Bool.{cond-true, cond-false, eq-eqb}
+use Rattle.std.specs.Str.{bytes_eq}
+use Rattle.ax_lang.specs.declared.program.Program.{Program}
+use Rattle.ax_future.specs.declared.machine.Machine.{Machine as CodeMachine}
+use Rattle.ax_machine.specs.Entries.{Key}
+use Rattle.ax_machine.proofs.FiringLemmas.{key_is, same_key}
+use Rattle.ax_buffer.specs.declared.items.Item.{Item as Request}
+use Rattle.ax_buffer.specs.Buffer.{queue_of}
+use Rattle.ax_context.specs.declared.id.Id.{Id}
+use Rattle.ax_context.specs.declared.contexts.Context.{Context as Held}
+use Rattle.ax_context.specs.Ids.{slot_of}
+use Rattle.ax_context.specs.Slots.{Slots, at, OthersStay}
+use Rattle.ax_account.specs.declared.part.Waiting.{Waiting as Item}
+use Rattle.ax_account.specs.Parts.{Part, free, is_empty, is_free, owned}
+use Rattle.ax_account.specs.Accounts.{Accounts, part_of, owner_of, Changes, occupied}
+use Rattle.ax_mailbox.specs.declared.mail.Mail.{Mail}
+use Rattle.ax_mailbox.specs.declared.mail.Mail.TheVariants as mail
+use Rattle.ax_execution.specs.Contexts.{Context}
+use Rattle.ax_execution.proofs.Upto.{by_cases}
+use Rattle.ax_core.specs.declared.record.Record.{Record}
+use Rattle.ax_core.specs.declared.record.Name.{Name}
+use Rattle.ax_core.specs.declared.controller.Controller.{Controller}
+use Rattle.ax_core.specs.Contexts.{same_id, ContextStands, waits_at}
+use Rattle.ax_core.specs.Keys.{OwnerStands}
+use Rattle.ax_core.specs.Flow.{one_if, answers_as, answered_as, starts_as, started_as, in_queues, in_outs, waits_for, is_owner, is_to_start, QueuedStands, OutStands, out_of, IsFlow}
+
+pub start_answered : (ms : List Mail) (one id : Id) (slot : ℕ) → answered_as id slot (ms ++ mail.Start one ∷ []) ≡ answered_as id slot ms
+start_answered [] one id slot = refl
+start_answered (m ∷ ms) one id slot = ap (λ (n : ℕ). answers_as id slot m + n) (start_answered ms one id slot)
+
+pub start_more : (ms : List Mail) (one id : Id) → started_as id (ms ++ mail.Start one ∷ []) ≡ started_as id ms + one_if (same_id one id)
+start_more [] one id = omega arith
+start_more (m ∷ ms) one id = let e : started_as id (ms ++ mail.Start one ∷ []) ≡ started_as id ms + one_if (same_id one id) = start_more ms one id in omega arith
+
+same_number : (n : ℕ) → nat_eq n n ≡ true
+same_number n = eq-eqb n n refl
+
+pub same_self : (id : Id) → same_id id id ≡ true
+same_self id = same_number (slot_of id)
+
+pub same_is : (i j : Id) → same_id i j ≡ true → i ≡ j
+same_is i j h = ap (λ (n : ℕ). record { slot = n }) (eqb-true (slot_of i) (slot_of j) h)
+
+pub other_ids : (i j : Id) → same_id i j ≡ false → j ≢ i
+other_ids i j h e = differs (sym (ap (same_id i) e ∙ same_self i) ∙ h)
+  where
+    differs : true ≡ false → ⊥
+    differs x = cc x
+
+-- the owner of a key is live
+pub owner_is_live : (p : Program) (ms : List Mail) (s : Slots Record) (key : Key) (o : Option Id) (c : Option Context) → OwnerStands p ms s key o c → (id : Id) → at s id ≡ None → is_owner id o ≡ false
+owner_is_live p ms s key None None h id gone = refl
+owner_is_live p ms s key None (Some c) h id gone = absurd h
+owner_is_live p ms s key (Some j) None h id gone = absurd h
+owner_is_live p ms s key (Some j) (Some c) h id gone = by_cases (same_id j id)
+    (λ x. absurd (subst (λ (o : Option (Held Record)). ContextStands p ms key j o c) (ap (at s) (same_is j id x) ∙ gone) h))
+    (λ x. x)

@@ -1,0 +1,4 @@
+pub mod Frames
+pub mod Admits
+pub mod Open
+pub mod Flows
