@@ -82,13 +82,13 @@ module _ (p : Program) (ms ns : List Mail) (s t : Slots Record) (id : Id)
       → (k : Key) → PartStands p ns t k (part_of b k) (times k) (control_at controls key (admit_on n e f (controls key)) k)
   keys_admit a b key n e f times controls changes c h k = by_cases (bytes_eq key k)
       (λ x. let same_one : key ≡ k = key_is key k x in
-        subst (λ (j : Key). PartStands p ns t j (part_of b j) (times j) (control_at controls key (admit_on n e f (controls key)) j)) same_one
-          (subst (λ (q : KeyControl). PartStands p ns t key (part_of b key) (times key) q) (sym (own_control controls key (admit_on n e f (controls key))))
-            (subst (λ (q : Part). PartStands p ns t key q (times key) (admit_on n e f (controls key))) (sym changes.own)
-              (own key n e f (part_of a key) (times key) (controls key) c (part_stays p ms ns s t key (keeps key) (part_of a key) (times key) (controls key) (h key))))))
+      subst (λ (j : Key). PartStands p ns t j (part_of b j) (times j) (control_at controls key (admit_on n e f (controls key)) j)) same_one
+      (subst (λ (q : KeyControl). PartStands p ns t key (part_of b key) (times key) q) (sym (own_control controls key (admit_on n e f (controls key))))
+      (subst (λ (q : Part). PartStands p ns t key q (times key) (admit_on n e f (controls key))) (sym changes.own)
+      (own key n e f (part_of a key) (times key) (controls key) c (part_stays p ms ns s t key (keeps key) (part_of a key) (times key) (controls key) (h key))))))
       (λ x. subst (λ (q : KeyControl). PartStands p ns t k (part_of b k) (times k) q) (sym (other_control controls key (admit_on n e f (controls key)) k x))
-        (subst (λ (q : Part). PartStands p ns t k q (times k) (controls k)) (sym (changes.others k (λ e. differs (sym (ap (bytes_eq key) e ∙ same_key key) ∙ x))))
-          (part_stays p ms ns s t k (keeps k) (part_of a k) (times k) (controls k) (h k))))
+      (subst (λ (q : Part). PartStands p ns t k q (times k) (controls k)) (sym (changes.others k (λ e. differs (sym (ap (bytes_eq key) e ∙ same_key key) ∙ x))))
+      (part_stays p ms ns s t k (keeps k) (part_of a k) (times k) (controls k) (h k))))
     where
       differs : true ≡ false → ⊥
       differs e = cc e

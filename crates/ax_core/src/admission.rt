@@ -1,5 +1,6 @@
 //! Rows come in.
 ghost use Rattle.std.specs.Prelude.{◌≡◌, ◌↔◌, true, IsTrue, IfOk, OnOk};
+ghost use Rattle.ax_account.specs.Accounts.{AreSound};
 ghost use Rattle.ax_execution.specs.Machine.{Admit};
 ghost use Rattle.ax_execution.specs.MachineControls.{MachineControl};
 ghost use Rattle.ax_core.specs.May.{may_admit};
@@ -22,7 +23,17 @@ impl Controller {
         ensures value { result ≡ may_admit self.now }
         ensures exact { (m : MachineControl) → IsSound self.now → StandsFor self.now m → IsTrue result ↔ MayAdmitOn self.now m }
     {
-        self.may_close() && self.contexts.len() < self.contexts.limit() && self.accounts.first_idle().is_none()
+        self.admits()
+    }
+
+    // The same test.
+    #[tactic(auto, using(crate::proofs::Open::none_first))]
+    fn admits(&self) -> bool
+        ensures value { result ≡ may_admit self.now }
+        ensures sound { AreSound self.now.accounts }
+    {
+        let idle = self.accounts.first_idle().is_some();
+        self.may_close() && self.contexts.len() < self.contexts.limit() && !idle
     }
 
     /// A row comes in, as a context of the current epoch. It owns a key that is free, and its start mail is posted; else it

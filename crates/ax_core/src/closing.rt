@@ -20,6 +20,14 @@ impl Controller {
         ensures value { result ≡ may_close self.now }
         ensures exact { (m : MachineControl) → StandsFor self.now m → IsTrue result ↔ IsOpenOn (rules_of self.now.settings) m }
     {
+        self.is_open()
+    }
+
+    // The same test.
+    #[tactic(auto, using(crate::proofs::Open::none_pending))]
+    fn is_open(&self) -> bool
+        ensures { result ≡ may_close self.now }
+    {
         !self.barrier && (!self.settings.serial || self.epochs.pending() == 0)
     }
 

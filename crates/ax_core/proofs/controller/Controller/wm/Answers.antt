@@ -1,4 +1,0 @@
-use Rattle.ax_core.proofs.controller.Controller.wm.Goals as goal
-
-pub returns : goal.returns
-returns c = λ m stands. stands.stands.wm
