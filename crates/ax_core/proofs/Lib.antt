@@ -1,5 +1,8 @@
-pub mod Frames
 pub mod Admits
-pub mod Open
-pub mod Flows
+pub mod AskLemmas
 pub mod Begins
+pub mod Flows
+pub mod Frames
+pub mod MarkLemmas
+pub mod Open
+pub mod TimerLemmas
