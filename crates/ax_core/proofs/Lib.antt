@@ -1,8 +1,15 @@
 pub mod Admits
 pub mod AskLemmas
+pub mod BatchLemmas
 pub mod Begins
+pub mod Counting
+pub mod Deliveries
 pub mod Flows
+pub mod Forgotten
 pub mod Frames
 pub mod MarkLemmas
 pub mod Open
+pub mod Owners
+pub mod Serves
 pub mod TimerLemmas
+pub mod Waits

@@ -150,7 +150,7 @@ abbrev pub key_in : Option (Held Record) → Key
 key_in None = []
 key_in (Some h) = h.payload.facts.key
 
--- each reply serves the request that it names
+-- each reply serves what it names
 abbrev pub serves : Controller → List Reply → List Answered
 serves a [] = []
 serves a (r ∷ rs) = record { event = Serve (key_in (at a.contexts r.id)) r.slot; answer = Some r.answer } ∷ serves a rs

@@ -1,16 +1,20 @@
 //! Requests go out in batches, and replies come back.
-ghost use Rattle.std.specs.Prelude.{◌≡◌, ◌<◌, length, take, IfOk, OnOk};
+ghost use Rattle.std.specs.Prelude.{◌≡◌, ◌+◌, ◌<◌, ◌≤◌, ◌++◌, length, take, IfOk, OnOk};
+ghost use Rattle.std.specs.List.{remove_range};
 ghost use Rattle.ax_buffer.specs.Buffer.{queue_of};
 ghost use Rattle.ax_execution.specs.MachineControls.{MachineControl};
 ghost use Rattle.ax_core.specs.Sound.{StandsFor, IsSound};
-ghost use Rattle.ax_core.specs.Events.{SameRules, AsksAll, AreOut, IsBatchOut, ServesAll};
+ghost use Rattle.ax_core.specs.Events.{SameRules, AsksAll, AreOut, IsBatchOut, ServesAll, names_in};
+ghost use Rattle.ax_core.specs.Batches.{IsPlaceOf, Forgets, mails_in};
 
 use crate::controller::Controller;
 use crate::record::Name;
-use ax_base::NoMemory;
+use ax_base::{ListOf, NoMemory};
 use ax_buffer::{Batch, Replies, Reply};
-use ax_context::Id;
-use ax_mailbox::Mail;
+use ax_context::laws::limit_law;
+use ax_mailbox::{Mail, Mailbox};
+use std::alloc::Global;
+use std::mem;
 
 impl Controller {
     /// How many requests wait in a shard's queue. Condition: the shard is below the settings' `shards`.
@@ -49,52 +53,78 @@ impl Controller {
     /// answer has a form that its request has, as serving the batch gives them.
     pub fn deliver(&mut self, r: Replies)
         requires sound { IsSound self.old }
-        requires out { IsBatchOut self.old r.now }
+        requires out { IsBatchOut self.old r }
         ensures sound { IsSound self.new }
         ensures same { SameRules self.old self.new }
-        ensures served { (m : MachineControl) → StandsFor self.old m → ServesAll self.old self.new r.now m }
+        ensures served { (m : MachineControl) → StandsFor self.old m → ServesAll self.old self.new r m }
     {
+        limit_law(&self.contexts);
         self.forget(&r);
-        for reply in r.into_vec() {
-            let Reply { id, slot, answer } = reply;
-            self.mails.post(Mail::Reply { id, slot, answer });
-        }
+        post_all(&mut self.mails, r);
     }
 
     // The requests of these replies are out no longer.
-    fn forget(&mut self, r: &Replies) {
+    fn forget(&mut self, r: &Replies)
+        requires sound { IsSound self.old }
+        requires out { IsBatchOut self.old r.now }
+        ensures { Forgets self.old self.new r.now }
+    {
         let Some(first) = r.as_slice().first() else {
             return;
         };
-        let shard = self.shard_of(&self.contexts.get(first.id).facts.key);
-        let out = &mut self.outs[shard as usize];
-        let place = place_of(out, first.id, first.slot);
-        out.drain(place..place + r.len());
+        let name = Name {
+            id: first.id,
+            slot: first.slot,
+        };
+        let shard = self.shard_of(&self.contexts.get(name.id).facts.key);
+        let place = place_of(self.outs[shard as usize].as_slice(), name);
+        take_out(self.alloc, &mut self.outs[shard as usize], place, r.len());
     }
 }
 
 // What the requests of a batch are called goes last, in order.
-fn put_names(out: &mut Vec<Name>, batch: &Batch) -> Result<(), NoMemory> {
+fn put_names(out: &mut ListOf<Name>, batch: &Batch) -> Result<(), NoMemory>
+    ensures { OnOk result (out.new ≡ out.old ++ names_in batch.now) }
+{
     for item in batch.as_slice() {
-        let name = Name {
+        out.push(Name {
             id: item.id,
             slot: item.slot,
-        };
-        let Ok(()) = out.push(name) else {
-            return Err(NoMemory);
-        };
+        })?;
     }
     Ok(())
 }
 
-// Where a request stands among those that are out; the length, where it isn't out.
-fn place_of(out: &[Name], id: Id, slot: u8) -> usize {
-    let mut place = 0;
-    while place < out.len() {
-        if out[place].id == id && out[place].slot == slot {
+// Where a request first stands among those that are out; the length, where it isn't out.
+fn place_of(out: &[Name], name: Name) -> usize
+    ensures { IsPlaceOf out.now name result }
+{
+    for (place, other) in out.iter().enumerate() {
+        if *other == name {
             return place;
         }
-        place += 1;
     }
-    place
+    out.len()
+}
+
+// So many are out no longer, from this place on.
+fn take_out(alloc: Global, out: &mut ListOf<Name>, place: usize, count: usize)
+    requires { place + count ≤ length out.old }
+    ensures { out.new ≡ remove_range out.old place (place + count) }
+{
+    let mut names = mem::replace(out, ListOf::new(alloc)).into_vec();
+    names.drain(place..place + count);
+    *out = ListOf::from_vec(names);
+}
+
+// Each reply becomes a mail, in order.
+fn post_all(mails: &mut Mailbox, r: Replies)
+    requires { length mails.old.mails + length r ≤ mails.old.room }
+    ensures mails { mails.new.mails ≡ mails.old.mails ++ mails_in r }
+    ensures room { mails.new.room ≡ mails.old.room }
+{
+    for reply in r.into_vec() {
+        let Reply { id, slot, answer } = reply;
+        mails.post(Mail::Reply { id, slot, answer });
+    }
 }

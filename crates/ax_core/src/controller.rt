@@ -16,8 +16,8 @@ use ax_buffer::RequestBuffer;
 use ax_context::Contexts;
 use ax_keys::{Key, group, index_of_group};
 use ax_lang::Program;
-use ax_mailbox::Mailbox;
 use ax_machine::first_watermark;
+use ax_mailbox::Mailbox;
 use ax_time::{Epochs, Timers};
 use std::alloc::Global;
 
@@ -44,11 +44,7 @@ impl Controller {
     /// Nothing was admitted or closed yet. It takes all rooms for contexts, requests and mails. The only fault is `NoMemory`.
     ///
     /// Conditions: the settings are in their ranges.
-    pub fn new(
-        alloc: Global,
-        program: Program,
-        settings: Settings,
-    ) -> Result<Controller, NoMemory>
+    pub fn new(alloc: Global, program: Program, settings: Settings) -> Result<Controller, NoMemory>
         requires { InRange settings }
         ensures sound { IfOk result (λ a. IsSound a) }
         ensures program { IfOk result (λ a. a.program ≡ program) }
@@ -63,11 +59,7 @@ impl Controller {
             barrier: false,
             contexts: Contexts::with_limit(alloc, settings.in_flight)?,
             accounts: Accounting::new(alloc),
-            buffer: RequestBuffer::with_room(
-                alloc,
-                settings.shards,
-                settings.in_flight * width,
-            )?,
+            buffer: RequestBuffer::with_room(alloc, settings.shards, settings.in_flight * width)?,
             outs: no_batches(alloc, settings.shards)?,
             mails: Mailbox::with_room(alloc, settings.in_flight * (width + 1))?,
             timers: Timers::new(alloc),

@@ -42,7 +42,12 @@ impl Controller {
 
     // The mark in front of a key fires the key's least timer.
     pub(crate) fn fire(&mut self, key: Key) -> Result<Fired, NoMemory> {
-        let Next::Mark { epoch, time: mark, .. } = self.accounts.front(&key) else {
+        let Next::Mark {
+            epoch,
+            time: mark,
+            ..
+        } = self.accounts.front(&key)
+        else {
             unreachable!()
         };
         let Some(time) = self.timers.take_least(&key) else {

@@ -1,0 +1,26 @@
+use Rattle.std.proofs.Common.{◌≡◌, ◌+◌, ◌≤◌, length, refl, sym, ap, subst, arith}
+use Rattle.ax_mailbox.specs.Queue.{Queue}
+use Rattle.ax_core.specs.declared.controller.Controller.{Controller}
+use Rattle.ax_core.proofs.Deliveries.{serves_all, sound_served, same_served, mails_fit}
+use Rattle.ax_core.proofs.controller.Controller.deliver.Goals as goal
+
+pub post_all-requires : goal.post_all-requires
+post_all-requires c =
+    let kept : c.forget.new.self.mails ≡ c.args.self.now.mails = ap (λ (d : Controller). d.mails) c.forget.ensures.same in
+    let all : length c.args.self.now.mails.mails + length c.args.r ≤ c.args.self.now.mails.room = mails_fit c.args.self.now c.requires.sound c.limit_law.ensures (length c.args.r) (omega (arith, c.forget.ensures.fewer)) in
+    subst (λ (q : Queue). length q.mails + length c.args.r ≤ q.room) (sym kept) all
+
+pub returns-clause-sound : goal.returns-clause-sound
+returns-clause-sound c =
+    let b : Controller = record c.forget.new.self { mails = c.post_all.new.mails } in
+    sound_served c.args.self.now c.forget.new.self b c.args.r c.forget.ensures refl c.post_all.ensures.mails c.post_all.ensures.room c.requires.sound
+
+pub returns-clause-same : goal.returns-clause-same
+returns-clause-same c =
+    let b : Controller = record c.forget.new.self { mails = c.post_all.new.mails } in
+    same_served c.args.self.now c.forget.new.self b c.args.r c.forget.ensures refl c.post_all.ensures.mails c.post_all.ensures.room
+
+pub returns-clause-served : goal.returns-clause-served
+returns-clause-served c =
+    let b : Controller = record c.forget.new.self { mails = c.post_all.new.mails } in
+    λ m x. serves_all c.args.self.now c.forget.new.self b c.args.r c.forget.ensures refl c.post_all.ensures.mails c.post_all.ensures.room c.requires.sound.flow m x
