@@ -4,9 +4,11 @@ pub mod BatchLemmas
 pub mod Begins
 pub mod Counting
 pub mod Deliveries
+pub mod EventLemmas
 pub mod Flows
 pub mod Forgotten
 pub mod Frames
+pub mod HandLemmas
 pub mod MarkLemmas
 pub mod Open
 pub mod Owners

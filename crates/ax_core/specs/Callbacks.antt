@@ -3,6 +3,8 @@ use Rattle.std.specs.Prelude.{◌≡◌, ◌<◌, ◌≤◌, ℕ, ◌+◌, ◌-�
 use Rattle.std.specs.List.{slice_set}
 use Rattle.ax_keys.specs.declared.TheConstants.{MOST_FIRINGS}
 use Rattle.ax_text.specs.declared.vocabulary.Answer.{Answer}
+use Rattle.ax_text.specs.declared.vocabulary.Handler.{Handler}
+use Rattle.ax_text.specs.declared.vocabulary.Handler.TheVariants as handler
 use Rattle.ax_text.specs.Controls.{Rest, slots, waiting, replaced, begin, give}
 use Rattle.ax_text.specs.Prints.{has}
 use Rattle.ax_text.specs.Jobs.{text_for}
@@ -27,6 +29,8 @@ use Rattle.ax_account.specs.declared.part.Waiting.TheVariants as item
 use Rattle.ax_account.specs.declared.part.Next.{Next}
 use Rattle.ax_account.specs.declared.part.Next.TheVariants as next
 use Rattle.ax_account.specs.Queues.{has_key}
+use Rattle.ax_mailbox.specs.declared.mail.Mail.{Mail}
+use Rattle.ax_mailbox.specs.declared.mail.Mail.TheVariants as mail
 use Rattle.ax_time.specs.Epochs.{Book, IsOpen, count_of, with_count}
 use Rattle.ax_core.specs.declared.record.Record.{Record}
 
@@ -118,3 +122,14 @@ AllMayLeave (e ∷ es) book = (IsOpen book e × (0 < count_of book e)) × AllMay
 -- among the idle keys each but this one is where it was
 abbrev pub OthersIdle : Key → List Key → List Key → Type 0
 OthersIdle key old new = (q : Key) → (q ≡ key → ⊥) → has_key new q ≡ has_key old q
+
+-- the epoch that a row is work of; a firing is none, since its mark is
+abbrev pub row_epochs : Handler → ℕ → List ℕ
+row_epochs handler.Row e = e ∷ []
+row_epochs handler.Timer e = []
+
+-- the mails with the start of a row that owns its key now
+abbrev pub with_start : Next → List Mail → List Mail
+with_start next.Free ms = ms
+with_start (next.Row id) ms = ms ++ mail.Start id ∷ []
+with_start (next.Mark e w fired) ms = ms

@@ -8,7 +8,7 @@ ghost use Rattle.ax_account.specs.Parts.{next_of, taken_up};
 ghost use Rattle.ax_account.specs.Accounts.{waiting_of, owner_of, Changes};
 ghost use Rattle.ax_execution.specs.Contexts as times;
 ghost use Rattle.ax_core.specs.May.{has_mail};
-ghost use Rattle.ax_core.specs.Callbacks.{Begins, WaitsAt, ResumedAt, item_for, items_for, IsHeld, IsQueued, ending, behind_marks, ended, all_left, AllMayLeave, OthersIdle};
+ghost use Rattle.ax_core.specs.Callbacks.{Begins, WaitsAt, ResumedAt, item_for, items_for, IsHeld, IsQueued, ending, behind_marks, ended, all_left, AllMayLeave, OthersIdle, row_epochs, with_start};
 
 use crate::controller::Controller;
 use crate::record::Record;
@@ -16,9 +16,10 @@ use ax_account::{Accounting, MOST_FIRINGS, Next};
 use ax_base::{Duplicate, NoMemory};
 use ax_buffer::{Item, RequestBuffer};
 use ax_context::{Contexts, Id};
-use ax_future::{Ask, Asks, Machine, TimerOp, Turn};
+use ax_future::{Ask, Asks, Handler, Machine, TimerOp, Turn};
 use ax_keys::Key;
 use ax_lang::Program;
+use ax_mailbox::{Mail, Mailbox};
 use ax_state::Answer;
 use ax_time::{Epochs, Timers};
 use std::alloc::Global;
@@ -172,4 +173,25 @@ fn hand_over(accounts: &mut Accounting, epochs: &mut Epochs, timers: &Timers, ke
         epochs.leave(epoch);
     }
     next
+}
+
+// A row is work of its epoch no longer; a firing wasn't.
+fn leave_row(epochs: &mut Epochs, handler: Handler, epoch: u64)
+    requires { AllMayLeave (row_epochs handler epoch) epochs.old }
+    ensures { epochs.new ≡ all_left (row_epochs handler epoch) epochs.old }
+{
+    if let Handler::Row = handler {
+        epochs.leave(epoch);
+    }
+}
+
+// A row that owns its key now is to be started.
+fn post_start(mails: &mut Mailbox, next: Next)
+    requires { length mails.old.mails < mails.old.room }
+    ensures mails { mails.new.mails ≡ with_start next mails.old.mails }
+    ensures room { mails.new.room ≡ mails.old.room }
+{
+    if let Next::Row { id } = next {
+        mails.post(Mail::Start { id });
+    }
 }
