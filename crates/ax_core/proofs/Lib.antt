@@ -1,7 +1,9 @@
 pub mod Admits
 pub mod AskLemmas
+pub mod AskedLemmas
 pub mod BatchLemmas
 pub mod Begins
+pub mod CalledLemmas
 pub mod Counting
 pub mod Deliveries
 pub mod EventLemmas
@@ -9,6 +11,7 @@ pub mod Flows
 pub mod Forgotten
 pub mod Frames
 pub mod HandLemmas
+pub mod LeaveLemmas
 pub mod MarkLemmas
 pub mod Open
 pub mod Owners
