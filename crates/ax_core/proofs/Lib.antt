@@ -3,6 +3,7 @@ pub mod AskLemmas
 pub mod AskedLemmas
 pub mod BatchLemmas
 pub mod Begins
+pub mod CallLemmas
 pub mod CalledLemmas
 pub mod Counting
 pub mod Deliveries
@@ -16,5 +17,6 @@ pub mod MarkLemmas
 pub mod Open
 pub mod Owners
 pub mod Serves
+pub mod StartLemmas
 pub mod TimerLemmas
 pub mod Waits
