@@ -8,3 +8,4 @@ pub mod Sound
 pub mod Events
 pub mod May
 pub mod Batches
+pub mod Firings

@@ -1,9 +1,15 @@
 //! Timers fire.
-ghost use Rattle.std.specs.Prelude.{◌≡◌, ◌↔◌, true, IsTrue, IfOk, OnOk};
+ghost use Rattle.std.specs.Prelude.{◌≡◌, ◌<◌, ◌↔◌, length, true, None, IsTrue, IsSome, IfOk, OnOk};
+ghost use Rattle.ax_text.specs.Times.{least_time};
+ghost use Rattle.ax_time.specs.Timers.{times_of};
+ghost use Rattle.ax_context.specs.Slots.{live_count};
+ghost use Rattle.ax_account.specs.Parts.{next_of, may_fire as mark_may_fire};
+ghost use Rattle.ax_account.specs.Accounts.{owner_of, waiting_of, AreSound};
 ghost use Rattle.ax_execution.specs.MachineControls.{MachineControl};
 ghost use Rattle.ax_core.specs.May.{may_fire};
 ghost use Rattle.ax_core.specs.Sound.{StandsFor, IsSound};
 ghost use Rattle.ax_core.specs.Events.{SameRules, Fires, MayFireOn};
+ghost use Rattle.ax_core.specs.Firings.{FiresAt};
 
 use crate::controller::Controller;
 use crate::effects::Fired;
@@ -12,6 +18,7 @@ use ax_account::Next;
 use ax_base::{Duplicate, NoMemory, Nums};
 use ax_future::{Facts, Handler};
 use ax_keys::Key;
+use ax_lang::program_is_accepted;
 use ax_mailbox::Mail;
 
 impl Controller {
@@ -20,7 +27,17 @@ impl Controller {
         ensures value { result ≡ may_fire self.now }
         ensures exact { (m : MachineControl) → IsSound self.now → StandsFor self.now m → IsTrue result ↔ MayFireOn self.now m }
     {
-        self.contexts.len() < self.contexts.limit() && self.accounts.first_idle().is_some()
+        self.fires()
+    }
+
+    // The same test.
+    #[tactic(auto, using(crate::proofs::Open::none_first))]
+    fn fires(&self) -> bool
+        ensures value { result ≡ may_fire self.now }
+        ensures sound { AreSound self.now.accounts }
+    {
+        let idle = self.accounts.first_idle().is_some();
+        self.contexts.len() < self.contexts.limit() && idle
     }
 
     /// The key that has been idle longest fires its least timer: a new context owns it, and its start mail is posted.
@@ -33,15 +50,24 @@ impl Controller {
         ensures same { OnOk result (SameRules self.old self.new) }
         ensures event { IfOk result (λ f. (m : MachineControl) → StandsFor self.old m → Fires self.old self.new f m) }
     {
+        program_is_accepted();
         let Some(idle) = self.accounts.first_idle() else {
             unreachable!()
         };
         let key = idle.copy(self.alloc)?;
-        self.fire(key)
+        let fired = self.fire(key)?;
+        Ok(fired)
     }
 
     // The mark in front of a key fires the key's least timer.
-    pub(crate) fn fire(&mut self, key: Key) -> Result<Fired, NoMemory> {
+    pub(crate) fn fire(&mut self, key: Key) -> Result<Fired, NoMemory>
+        requires owner { owner_of self.old.accounts key ≡ None }
+        requires mark { mark_may_fire (next_of (waiting_of self.old.accounts key)) ≡ true }
+        requires timer { IsSome (least_time (times_of self.old.timers key)) }
+        requires contexts { live_count self.old.contexts < self.old.contexts.limit }
+        requires mails { length self.old.mails.mails < self.old.mails.room }
+        ensures { IfOk result (λ f. FiresAt self.old self.new key f) }
+    {
         let Next::Mark {
             epoch,
             time: mark,
