@@ -1,4 +1,3 @@
-pub mod Frames
 pub mod Admits
 pub mod Open
 pub mod Flows
@@ -8,7 +7,18 @@ pub mod Begins
 pub mod Counting
 pub mod Waits
 pub mod Owners
+pub mod AskLemmas
+pub mod AskedLemmas
 pub mod BatchLemmas
-pub mod Serves
-pub mod Forgotten
+pub mod CallLemmas
+pub mod CalledLemmas
 pub mod Deliveries
+pub mod EventLemmas
+pub mod Forgotten
+pub mod Frames
+pub mod HandLemmas
+pub mod LeaveLemmas
+pub mod MarkLemmas
+pub mod Serves
+pub mod StartLemmas
+pub mod TimerLemmas

@@ -1,3 +1,4 @@
+pub mod Callbacks
 pub mod Contexts
 pub mod Keys
 pub mod Flow

@@ -1,22 +1,27 @@
 //! Callbacks run.
-ghost use Rattle.std.specs.Prelude.{◌≡◌, true, IfOk, OnOk};
-ghost use Rattle.ax_execution.specs.MachineControls.{MachineControl};
+ghost use Rattle.std.specs.Prelude.{◌≡◌, ◌≤◌, ◌<◌, ◌+◌, ◌∷◌, [], length, IsSome, IfOk, OnOk};
+ghost use Rattle.ax_text.specs.Run.{time_after, times_after};
+ghost use Rattle.ax_time.specs.Timers.{PutsTimes, times_of};
+ghost use Rattle.ax_context.specs.Slots.{Has};
+ghost use Rattle.ax_buffer.specs.Buffer.{total};
+ghost use Rattle.ax_account.specs.Parts.{next_of, taken_up};
+ghost use Rattle.ax_account.specs.Accounts.{waiting_of, owner_of, Changes};
+ghost use Rattle.ax_execution.specs.Contexts as times;
 ghost use Rattle.ax_core.specs.May.{has_mail};
-ghost use Rattle.ax_core.specs.Sound.{StandsFor, IsSound};
-ghost use Rattle.ax_core.specs.Events.{SameRules, Runs};
+ghost use Rattle.ax_core.specs.Callbacks.{Begins, WaitsAt, ResumedAt, item_for, items_for, IsHeld, IsQueued, ending, behind_marks, ended, all_left, AllMayLeave, OthersIdle, row_epochs, with_start};
 
 use crate::controller::Controller;
-use crate::effects::{Effects, Fired, Ran};
 use crate::record::Record;
-use ax_account::{MOST_FIRINGS, Next};
+use ax_account::{Accounting, MOST_FIRINGS, Next};
 use ax_base::{Duplicate, NoMemory};
-use ax_buffer::Item;
-use ax_context::{Id, Released};
-use ax_future::{Ask, Asks, Handler, Machine, TimerOp, TimerOps, Turn};
+use ax_buffer::{Item, RequestBuffer};
+use ax_context::{Contexts, Id};
+use ax_future::{Ask, Asks, Handler, Machine, TimerOp, Turn};
 use ax_keys::Key;
 use ax_lang::Program;
-use ax_mailbox::Mail;
+use ax_mailbox::{Mail, Mailbox};
 use ax_state::Answer;
+use ax_time::{Epochs, Timers};
 use std::alloc::Global;
 
 impl Controller {
@@ -26,137 +31,12 @@ impl Controller {
     {
         self.mails.len() > 0
     }
-
-    /// Runs the mail that waits longest: a handler begins, or is given an answer, and runs until it waits again or has ended.
-    /// Its requests join their shard's queue, and its timers are set. Where it has ended, its context is given up, and what
-    /// waits for its key comes next: a row owns the key, and its start mail is posted; a mark fires a due timer at once, and
-    /// else ends.
-    ///
-    /// Condition: `mail_waits()`.
-    pub fn run_mail(&mut self) -> Result<Effects, NoMemory>
-        requires sound { IsSound self.old }
-        requires mail { has_mail self.old ≡ true }
-        ensures sound { OnOk result (IsSound self.new) }
-        ensures same { OnOk result (SameRules self.old self.new) }
-        ensures events { IfOk result (λ f. (m : MachineControl) → StandsFor self.old m → Runs self.old self.new f m) }
-    {
-        match self.mails.take() {
-            Some(Mail::Start { id } | Mail::Fire { id }) => self.run_start(id),
-            Some(Mail::Reply { id, slot, answer }) => self.run_reply(id, slot, answer),
-            None => unreachable!(),
-        }
-    }
-
-    // A handler begins.
-    fn run_start(&mut self, id: Id) -> Result<Effects, NoMemory> {
-        let ran = Ran::Start {
-            context: self.contexts.number(id),
-        };
-        let turn = begin(self.alloc, &self.program, self.contexts.get_mut(id))?;
-        self.end_callback(id, ran, turn)
-    }
-
-    // A handler is given an answer.
-    fn run_reply(&mut self, id: Id, slot: u8, answer: Answer) -> Result<Effects, NoMemory> {
-        let ran = Ran::Reply {
-            context: self.contexts.number(id),
-            slot,
-        };
-        let turn = resume(&self.program, self.contexts.get_mut(id), slot, answer)?;
-        self.end_callback(id, ran, turn)
-    }
-
-    // A callback has ended.
-    fn end_callback(&mut self, id: Id, ran: Ran, turn: Turn) -> Result<Effects, NoMemory> {
-        let Turn {
-            asks,
-            outs,
-            timer_ops,
-        } = turn;
-        let key = self.contexts.get(id).facts.key.copy(self.alloc)?;
-        self.set_timers(&key, &timer_ops)?;
-        self.ask(id, &key, asks)?;
-        let Released::Gone { payload, epoch, .. } = self.contexts.release(id) else {
-            return Ok(Effects {
-                key,
-                ran,
-                outs,
-                gone: false,
-                fired: None,
-            });
-        };
-        if let Handler::Row = payload.handler {
-            self.epochs.leave(epoch);
-        }
-        let fired = self.hand_over(&key)?;
-        Ok(Effects {
-            key,
-            ran,
-            outs,
-            gone: true,
-            fired,
-        })
-    }
-
-    // What a callback did to the timers of its key, in order.
-    fn set_timers(&mut self, key: &Key, ops: &TimerOps) -> Result<(), NoMemory> {
-        for op in ops.as_slice() {
-            match op {
-                TimerOp::Set { time } => self.timers.set(key, *time)?,
-                TimerOp::Unset { time } => self.timers.unset(key, *time),
-            }
-        }
-        Ok(())
-    }
-
-    // The requests of a callback join the queue of their key's shard, in order, each with a reference to the context.
-    fn ask(&mut self, id: Id, key: &Key, asks: Asks) -> Result<(), NoMemory> {
-        let shard = self.shard_of(key);
-        for ask in asks.into_vec() {
-            let item = Item {
-                id,
-                slot: ask.slot,
-                key: key.copy(self.alloc)?,
-                request: ask.request,
-            };
-            self.contexts.retain(id);
-            self.buffer.push(shard, item);
-        }
-        Ok(())
-    }
-
-    // A key without owner: a row in front owns it; marks that fire nothing end, and one that does fires.
-    fn hand_over(&mut self, key: &Key) -> Result<Option<Fired>, NoMemory> {
-        let mut next = self.accounts.release(key);
-        loop {
-            match next {
-                Next::Free => return Ok(None),
-                Next::Row { id } => {
-                    self.mails.post(Mail::Start { id });
-                    return Ok(None);
-                }
-                Next::Mark { epoch, time, fired } => {
-                    if fired < MOST_FIRINGS && self.is_due(key, time) {
-                        return Ok(Some(self.fire(key.copy(self.alloc)?)?));
-                    }
-                    next = self.accounts.end_mark(key);
-                    self.epochs.leave(epoch);
-                }
-            }
-        }
-    }
-
-    // A timer of the key is at or below a watermark.
-    fn is_due(&self, key: &Key, time: i64) -> bool {
-        match self.timers.least_of(key) {
-            Some(least) => least <= time,
-            None => false,
-        }
-    }
 }
 
 // The handler of a context begins.
-fn begin(alloc: Global, program: &Program, record: &mut Record) -> Result<Turn, NoMemory> {
+fn begin(alloc: Global, program: &Program, record: &mut Record) -> Result<Turn, NoMemory>
+    ensures { IfOk result (λ turn. Begins program.now record.old record.new turn) }
+{
     let (machine, turn) = Machine::start(alloc, program, record.handler, &record.facts)?;
     record.machine = Some(machine);
     Ok(turn)
@@ -168,9 +48,150 @@ fn resume(
     record: &mut Record,
     slot: u8,
     answer: Answer,
-) -> Result<Turn, NoMemory> {
-    match &mut record.machine {
-        Some(machine) => machine.resume(program, &record.facts, slot, answer),
-        None => unreachable!(),
+) -> Result<Turn, NoMemory>
+    requires { WaitsAt program.now record.old.machine slot }
+    ensures { IfOk result (λ turn. ResumedAt program.now record.old record.new record.old.machine slot answer turn) }
+{
+    let Some(mut machine) = record.machine.take() else {
+        unreachable!()
+    };
+    let turn = machine.resume(program, &record.facts, slot, answer)?;
+    record.machine = Some(machine);
+    Ok(turn)
+}
+
+// Sets or takes off a timer of the key.
+fn set_timer(timers: &mut Timers, key: &Key, op: &TimerOp) -> Result<(), NoMemory>
+    ensures times { OnOk result (PutsTimes timers.old timers.new key.now (time_after op.now (times_of timers.old key.now))) }
+{
+    match op {
+        TimerOp::Set { time } => timers.set(key, *time),
+        TimerOp::Unset { time } => {
+            timers.unset(key, *time);
+            Ok(())
+        }
+    }
+}
+
+// What a callback did to the timers of its key, in order.
+fn set_timers(timers: &mut Timers, key: &Key, ops: &[TimerOp]) -> Result<(), NoMemory>
+    ensures times { OnOk result (PutsTimes timers.old timers.new key.now (times_after ops.now (times_of timers.old key.now))) }
+{
+    'op: for op in ops {
+        set_timer(timers, key, op)?;
+    }
+    Ok(())
+}
+
+// A request of a callback goes last into the queue of its key's shard, with a reference to the context.
+fn ask_one(
+    alloc: Global,
+    contexts: &mut Contexts<Record>,
+    buffer: &mut RequestBuffer,
+    shard: u16,
+    id: Id,
+    key: &Key,
+    ask: Ask,
+) -> Result<(), NoMemory>
+    requires few { Has contexts.old id (λ c. c.count < 17) }
+    requires shard { shard < length buffer.old.queues }
+    requires room { total length buffer.old.queues < buffer.old.room }
+    ensures held { OnOk result (IsHeld contexts.old contexts.new id 1) }
+    ensures queued { OnOk result (IsQueued buffer.old buffer.new shard (item_for id key.now ask ∷ [])) }
+{
+    let item = Item {
+        id,
+        slot: ask.slot,
+        key: key.copy(alloc)?,
+        request: ask.request,
+    };
+    contexts.retain(id);
+    buffer.push(shard, item);
+    Ok(())
+}
+
+// The requests of a callback join the queue of their key's shard, in order, each with a reference to the context.
+fn ask_all(
+    alloc: Global,
+    contexts: &mut Contexts<Record>,
+    buffer: &mut RequestBuffer,
+    shard: u16,
+    id: Id,
+    key: &Key,
+    asks: Asks,
+) -> Result<(), NoMemory>
+    requires few { Has contexts.old id (λ c. c.count + length asks ≤ 17) }
+    requires shard { shard < length buffer.old.queues }
+    requires room { total length buffer.old.queues + length asks ≤ buffer.old.room }
+    ensures held { OnOk result (IsHeld contexts.old contexts.new id (length asks)) }
+    ensures queued { OnOk result (IsQueued buffer.old buffer.new shard (items_for id key.now asks)) }
+{
+    for ask in asks.into_vec() {
+        ask_one(alloc, contexts, buffer, shard, id, key, ask)?;
+    }
+    Ok(())
+}
+
+// A timer of the key is at or below a watermark.
+fn is_due(timers: &Timers, key: &Key, time: i64) -> bool
+    ensures { result ≡ times.is_due time (times_of timers.now key.now) }
+{
+    match timers.least_of(key) {
+        Some(least) => least <= time,
+        None => false,
+    }
+}
+
+// The epoch of the mark in front of a key, where that mark fires nothing.
+fn ending_epoch(timers: &Timers, key: &Key, next: Next) -> Option<u64>
+    ensures { result ≡ ending (times_of timers.now key.now) next }
+{
+    match next {
+        Next::Mark { epoch, time, fired } => {
+            if fired < MOST_FIRINGS && is_due(timers, key, time) {
+                None
+            } else {
+                Some(epoch)
+            }
+        }
+        _ => None,
+    }
+}
+
+// A key whose owner is given up: the marks in front that fire nothing end. Tells what comes next.
+fn hand_over(accounts: &mut Accounting, epochs: &mut Epochs, timers: &Timers, key: &Key) -> Next
+    requires owner { IsSome (owner_of accounts.old key.now) }
+    requires left { AllMayLeave (ended (times_of timers.now key.now) (waiting_of accounts.old key.now)) epochs.old }
+    ensures next { result ≡ next_of (behind_marks (times_of timers.now key.now) (waiting_of accounts.old key.now)) }
+    ensures part { Changes accounts.old accounts.new key.now (taken_up (behind_marks (times_of timers.now key.now) (waiting_of accounts.old key.now))) }
+    ensures idle { OthersIdle key.now accounts.old.idle accounts.new.idle }
+    ensures epochs { epochs.new ≡ all_left (ended (times_of timers.now key.now) (waiting_of accounts.old key.now)) epochs.old }
+{
+    let mut next = accounts.release(key);
+    while let Some(epoch) = ending_epoch(timers, key, next) {
+        next = accounts.end_mark(key);
+        epochs.leave(epoch);
+    }
+    next
+}
+
+// A row is work of its epoch no longer; a firing wasn't.
+fn leave_row(epochs: &mut Epochs, handler: Handler, epoch: u64)
+    requires { AllMayLeave (row_epochs handler epoch) epochs.old }
+    ensures { epochs.new ≡ all_left (row_epochs handler epoch) epochs.old }
+{
+    if let Handler::Row = handler {
+        epochs.leave(epoch);
+    }
+}
+
+// A row that owns its key now is to be started.
+fn post_start(mails: &mut Mailbox, next: Next)
+    requires { length mails.old.mails < mails.old.room }
+    ensures mails { mails.new.mails ≡ with_start next mails.old.mails }
+    ensures room { mails.new.room ≡ mails.old.room }
+{
+    if let Next::Row { id } = next {
+        mails.post(Mail::Start { id });
     }
 }

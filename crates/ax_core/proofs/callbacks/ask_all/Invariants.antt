@@ -1,0 +1,16 @@
+use Rattle.std.proofs.Common.{◌≡◌, ◌+◌, ◌≤◌, ◌<◌, List, length}
+use Rattle.ax_buffer.specs.declared.items.Item.{Item}
+use Rattle.ax_buffer.specs.Buffer.{Buffer, total}
+use Rattle.ax_context.specs.Slots.{Slots, Has}
+use Rattle.ax_core.specs.declared.record.Record.{Record}
+use Rattle.ax_core.specs.Callbacks.{items_for, IsHeld, IsQueued}
+use Rattle.ax_core.proofs.callbacks.ask_all.Given as goal
+
+abbrev pub invariant-loop-ask : goal.invariant-loop-ask
+invariant-loop-ask l = record {
+  few : Has l.contexts l.id (λ c. c.count + length l.ask-iterator.rest.items ≤ 17);
+  shard : l.shard < length l.buffer.queues;
+  room : total length l.buffer.queues + length l.ask-iterator.rest.items ≤ l.buffer.room;
+  held : (u : Slots Record) → IsHeld l.contexts u l.id (length l.ask-iterator.rest.items) → IsHeld l.fn.contexts u l.id (length l.fn.asks);
+  queued : (u : Buffer) → IsQueued l.buffer u l.shard (items_for l.id l.key l.ask-iterator.rest.items) → IsQueued l.fn.buffer u l.shard (items_for l.id l.key l.fn.asks);
+}
