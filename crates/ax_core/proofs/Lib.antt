@@ -5,3 +5,8 @@ pub mod Flows
 pub mod Sends
 pub mod Sent
 pub mod Begins
+pub mod Marking
+pub mod Marked
+pub mod Closes
+pub mod Free
+pub mod ClosedBy
