@@ -22,3 +22,8 @@ pub mod MarkLemmas
 pub mod Serves
 pub mod StartLemmas
 pub mod TimerLemmas
+pub mod Marking
+pub mod Marked
+pub mod Closes
+pub mod Free
+pub mod ClosedBy

@@ -1,15 +1,24 @@
-//! Whether an epoch may be closed, and the markers of closed epochs.
-ghost use Rattle.std.specs.Prelude.{◌≡◌, ◌↔◌, IsTrue};
+//! Epochs are closed, and their markers are sent.
+ghost use Rattle.std.specs.Prelude.{◌≡◌, ◌↔◌, ◌+◌, ◌≤◌, ◌<◌, ◌^◌, ◌<ℤ◌, length, true, IsTrue, OnOk};
+ghost use Rattle.ax_account.specs.Parts.{is_free};
+ghost use Rattle.ax_account.specs.Accounts.{part_of};
+ghost use Rattle.ax_execution.specs.Machine.{Close, ByWatermark, ByBarrier};
 ghost use Rattle.ax_execution.specs.MachineControls.{MachineControl};
 ghost use Rattle.ax_execution.specs.ControlsAllowed.{IsOpenOn};
-ghost use Rattle.ax_core.specs.May.{may_close};
-ghost use Rattle.ax_core.specs.Closings.{barrier_left};
+ghost use Rattle.ax_core.specs.May.{may_close, IsNext};
+ghost use Rattle.ax_core.specs.Epochs.{closing_of};
+ghost use Rattle.ax_core.specs.Closings.{barrier_left, Marks, MarksIf, MarksAll, books, current_count, every, is_free_at};
 ghost use Rattle.ax_core.specs.Sound.{rules_of, StandsFor, IsSound};
-ghost use Rattle.ax_core.specs.Events.{SameRules, SendsNext};
+ghost use Rattle.ax_core.specs.Events.{SameRules, Makes, SendsNext};
 
 use crate::controller::Controller;
-use ax_time::Marker;
-use ax_time::epoch_laws::{counts_stay_law, sizes_law};
+use ax_account::{Accounting, Next};
+use ax_base::NoMemory;
+use ax_context::Id;
+use ax_keys::Key;
+use ax_time::epoch_laws::{counts_stay_law, one_epoch_law, sizes_law};
+use ax_time::{Epochs, Marker};
+use std::mem::size_of_val;
 
 impl Controller {
     /// Whether an epoch may be closed: no barrier waits to be sent, and in serial mode no marker.
@@ -26,6 +35,63 @@ impl Controller {
         ensures { result ≡ may_close self.now }
     {
         !self.barrier && (!self.settings.serial || self.epochs.pending() == 0)
+    }
+
+    /// Ends the current epoch. A watermark waits, as a mark, at each key that isn't free and at each with a timer that is due.
+    ///
+    /// Conditions: `may_close()`, and a watermark is greater than `wm()`.
+    pub fn close(&mut self, m: Marker) -> Result<(), NoMemory>
+        requires sound { IsSound self.old }
+        requires may { may_close self.old ≡ true }
+        requires next { IsNext self.old m }
+        ensures sound { OnOk result (IsSound self.new) }
+        ensures same { OnOk result (SameRules self.old self.new) }
+        ensures event { OnOk result ((c : MachineControl) → StandsFor self.old c → Makes self.old self.new (Close (closing_of m)) c) }
+    {
+        match m {
+            Marker::Mark { time } => self.close_by_watermark(time),
+            Marker::Barrier { id } => self.close_by_barrier(id),
+        }
+    }
+
+    // Ends the current epoch with a watermark.
+    fn close_by_watermark(&mut self, time: i64) -> Result<(), NoMemory>
+        requires sound { IsSound self.old }
+        requires may { may_close self.old ≡ true }
+        requires next { self.old.wm <ℤ time }
+        ensures sound { OnOk result (IsSound self.new) }
+        ensures same { OnOk result (SameRules self.old self.new) }
+        ensures event { OnOk result ((c : MachineControl) → StandsFor self.old c → Makes self.old self.new (Close (ByWatermark time)) c) }
+    {
+        sizes_law(&self.epochs);
+        counts_stay_law();
+        one_epoch_law();
+        let busy = self.accounts.busy(self.alloc)?;
+        let due = self.timers.due_keys(self.alloc, time)?;
+        few_keys(busy.as_slice());
+        few_keys(due.as_slice());
+        mark_all(&mut self.accounts, &mut self.epochs, busy.as_slice(), time)?;
+        mark_free(&mut self.accounts, &mut self.epochs, due.as_slice(), time)?;
+        self.wm = time;
+        self.epochs.close(Marker::Mark { time })?;
+        sizes_law(&self.epochs);
+        Ok(())
+    }
+
+    // Ends the current epoch with a barrier.
+    fn close_by_barrier(&mut self, id: i64) -> Result<(), NoMemory>
+        requires sound { IsSound self.old }
+        requires may { may_close self.old ≡ true }
+        ensures sound { OnOk result (IsSound self.new) }
+        ensures same { OnOk result (SameRules self.old self.new) }
+        ensures event { OnOk result ((c : MachineControl) → StandsFor self.old c → Makes self.old self.new (Close (ByBarrier id)) c) }
+    {
+        sizes_law(&self.epochs);
+        counts_stay_law();
+        self.barrier = true;
+        self.epochs.close(Marker::Barrier { id })?;
+        sizes_law(&self.epochs);
+        Ok(())
     }
 
     /// Sends the oldest closed epoch's marker, where its work and that of all before it is done. `None` exactly where the
@@ -52,5 +118,102 @@ fn barrier_left(barrier: bool, sent: Option<Marker>) -> bool
         Some(Marker::Barrier { .. }) => false,
         Some(Marker::Mark { .. }) => barrier,
         None => barrier,
+    }
+}
+
+// Memory has room for fewer than 2^60 keys.
+fn few_keys(keys: &[Key])
+    ensures { length keys.now < 2 ^ 60 }
+{
+    let _bytes = size_of_val(keys);
+}
+
+// A watermark waits at each of these keys.
+fn mark_all(
+    accounts: &mut Accounting,
+    epochs: &mut Epochs,
+    keys: &[Key],
+    time: i64,
+) -> Result<(), NoMemory>
+    requires room { current_count epochs.old + length keys.now ≤ 2 ^ 63 }
+    ensures marks { OnOk result (MarksAll every time keys.now (books accounts.old epochs.old) (books accounts.new epochs.new)) }
+    ensures count { OnOk result (current_count epochs.new ≤ current_count epochs.old + length keys.now) }
+{
+    for key in keys {
+        mark_key(accounts, epochs, key, time)?;
+    }
+    Ok(())
+}
+
+// A watermark waits at each of these keys that is free.
+fn mark_free(
+    accounts: &mut Accounting,
+    epochs: &mut Epochs,
+    keys: &[Key],
+    time: i64,
+) -> Result<(), NoMemory>
+    requires room { current_count epochs.old + length keys.now ≤ 2 ^ 63 }
+    ensures marks { OnOk result (MarksAll is_free time keys.now (books accounts.old epochs.old) (books accounts.new epochs.new)) }
+{
+    for key in keys {
+        mark_if_free(accounts, epochs, key, time)?;
+    }
+    Ok(())
+}
+
+// A watermark waits at a key, the last of all.
+fn mark_key(
+    accounts: &mut Accounting,
+    epochs: &mut Epochs,
+    key: &Key,
+    time: i64,
+) -> Result<(), NoMemory>
+    requires room { current_count epochs.old < 2 ^ 63 }
+    ensures marks { OnOk result (Marks time key.now (books accounts.old epochs.old) (books accounts.new epochs.new)) }
+    ensures count { OnOk result (current_count epochs.new ≡ current_count epochs.old + 1) }
+{
+    sizes_law(epochs);
+    one_epoch_law();
+    let epoch = epochs.current();
+    accounts.wait_mark(key, epoch, time)?;
+    epochs.enter(epoch);
+    Ok(())
+}
+
+// The same where the key is free.
+fn mark_if_free(
+    accounts: &mut Accounting,
+    epochs: &mut Epochs,
+    key: &Key,
+    time: i64,
+) -> Result<(), NoMemory>
+    requires room { current_count epochs.old < 2 ^ 63 }
+    ensures marks { OnOk result (MarksIf (is_free (part_of accounts.old key.now)) time key.now (books accounts.old epochs.old) (books accounts.new epochs.new)) }
+    ensures count { OnOk result (current_count epochs.new ≤ current_count epochs.old + 1) }
+{
+    if is_free(accounts, key) {
+        mark_key(accounts, epochs, key, time)
+    } else {
+        Ok(())
+    }
+}
+
+// A key has no owner, and nothing waits for it.
+fn is_free(accounts: &Accounting, key: &Key) -> bool
+    ensures { result ≡ is_free (part_of accounts.now key.now) }
+{
+    let owner = accounts.owner(key);
+    let next = accounts.front(key);
+    is_free_at(owner, next)
+}
+
+// The same, by its owner and what waits in front.
+fn is_free_at(owner: Option<Id>, next: Next) -> bool
+    ensures { result ≡ is_free_at owner next }
+{
+    match next {
+        Next::Row { .. } => false,
+        Next::Mark { .. } => false,
+        Next::Free => owner.is_none(),
     }
 }
