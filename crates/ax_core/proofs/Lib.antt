@@ -10,3 +10,6 @@ pub mod BatchLemmas
 pub mod Serves
 pub mod Forgotten
 pub mod Deliveries
+pub mod Fires
+pub mod FiresFlow
+pub mod FiresStand
