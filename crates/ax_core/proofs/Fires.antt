@@ -1,13 +1,11 @@
 -- The mark in front of a key fires the key's least timer: what stands for the keys behind that.
-use Rattle.std.proofs.Common.{◌≡◌, ℕ, zero, suc, ◌+◌, ◌<◌, ℤ, int_le, List, [], ◌∷◌, ◌++◌, not, cond, Bool, true, false, ◌||◌, Option, Some, None, IsSomeAnd, refl, sym, ap, ap₂, ◌∙◌, subst, arith}
+use Rattle.std.proofs.Common.{◌≡◌, ℕ, zero, suc, ◌+◌, ℤ, int_le, List, [], ◌∷◌, not, cond, Bool, true, false, ◌||◌, Option, Some, None, IsSomeAnd, refl, sym, ap, ap₂, ◌∙◌, subst, arith}
 use Rattle.std.specs.Str.{bytes_eq}
-use Rattle.std.specs.List.{list_any}
 use Rattle.std.proofs.lemmas.Bool.{cond-true, cond-false}
 use Rattle.ax_text.specs.Times.{least_time, later_times}
-use Rattle.ax_text.specs.Jobs.{Job, firing_job}
+use Rattle.ax_text.specs.Jobs.{firing_job}
 use Rattle.ax_lang.specs.declared.program.Program.{Program}
 use Rattle.ax_machine.specs.Entries.{Key}
-use Rattle.ax_machine.specs.Firings.{most_firings}
 use Rattle.ax_machine.proofs.FiringLemmas.{key_is, same_key as own_key}
 use Rattle.ax_context.specs.declared.id.Id.{Id}
 use Rattle.ax_context.specs.declared.contexts.Context.{Context as Held}
@@ -23,7 +21,7 @@ use Rattle.ax_account.proofs.QueueLemmas.{key_is as same_is}
 use Rattle.ax_mailbox.specs.declared.mail.Mail.{Mail}
 use Rattle.ax_time.specs.declared.timer.Timer.{Timer}
 use Rattle.ax_time.specs.Timers.{PutsTimes, times_of}
-use Rattle.ax_execution.specs.Contexts.{Unbegun, Context, new_context, row_context, Waiting, Row, Mark, may_fire}
+use Rattle.ax_execution.specs.Contexts.{Context, new_context, row_context, Waiting, Row, Mark, may_fire}
 use Rattle.ax_execution.specs.KeyControls.{KeyControl}
 use Rattle.ax_execution.specs.ControlTurns.{fire_due_on, fire_front_on, fire_on}
 use Rattle.ax_execution.specs.MachineControls.{MachineControl, control_at}

@@ -1,13 +1,11 @@
 -- The flow of the requests where a timer fires.
 use Rattle.std.proofs.Common.{◌≡◌, ℕ, ◌+◌, List, [], ◌∷◌, ◌++◌, Bool, true, false, ◌&&◌, Option, Some, None, is_none, refl, sym, ap, ◌∙◌, subst, arith}
 use Rattle.std.specs.Str.{bytes_eq}
-use Rattle.std.specs.List.{Contains}
 use Rattle.ax_text.specs.Controls.{Ask'}
 use Rattle.ax_future.specs.declared.machine.Machine.{Machine as CodeMachine}
 use Rattle.ax_machine.specs.Entries.{Key}
 use Rattle.ax_machine.proofs.FiringLemmas.{key_is, same_key}
 use Rattle.ax_buffer.specs.declared.items.Item.{Item as Request}
-use Rattle.ax_buffer.specs.Buffer.{queue_of}
 use Rattle.ax_context.specs.declared.id.Id.{Id}
 use Rattle.ax_context.specs.declared.contexts.Context.{Context as Held}
 use Rattle.ax_context.specs.Slots.{at}
@@ -17,11 +15,10 @@ use Rattle.ax_mailbox.specs.declared.mail.Mail.{Mail}
 use Rattle.ax_mailbox.specs.declared.mail.Mail.TheVariants as mail
 use Rattle.ax_execution.proofs.Upto.{by_cases}
 use Rattle.ax_core.specs.declared.record.Record.{Record}
-use Rattle.ax_core.specs.declared.record.Name.{Name}
 use Rattle.ax_core.specs.declared.effects.Fired.{Fired}
 use Rattle.ax_core.specs.declared.controller.Controller.{Controller}
 use Rattle.ax_core.specs.Contexts.{same_id, waits_at}
-use Rattle.ax_core.specs.Flow.{one_if, answers_as, answered_as, starts_as, started_as, in_queues, in_outs, waits_for, is_owner, is_to_start, OwnsBegun, OwnsOnceBegun, QueuedStands, OutStands, out_of, IsFlow}
+use Rattle.ax_core.specs.Flow.{one_if, answers_as, answered_as, started_as, in_queues, in_outs, waits_for, is_owner, is_to_start, OwnsBegun, OwnsOnceBegun, QueuedStands, OutStands, IsFlow}
 use Rattle.ax_core.specs.Firings.{FiresAt}
 use Rattle.ax_core.proofs.Flows.{same_is, other_ids}
 use Rattle.ax_core.proofs.Owners.{none_some}

@@ -1,9 +1,9 @@
 -- A timer that fires, as an event of the machine.
-use Rattle.std.proofs.Common.{◌≡◌, ℕ, suc, ◌+◌, ◌*◌, ◌<◌, ◌≤◌, ℤ, nat_lt, List, [], ◌∷◌, ◌++◌, length, Bool, true, false, not, ◌&&◌, Option, Some, None, is_none, is_some, refl, sym, ap, ap₂, ◌∙◌, subst, arith, add-mul, mul-le-mul_right, length-append}
+use Rattle.std.proofs.Common.{◌≡◌, ℕ, ◌+◌, ◌*◌, ◌<◌, ◌≤◌, ℤ, List, [], ◌∷◌, length, true, false, not, Option, Some, None, is_none, is_some, refl, sym, ap, ap₂, ◌∙◌, subst, arith, add-mul, mul-le-mul_right, length-append}
 use Rattle.std.specs.Prelude.{All, IsSome}
 use Rattle.std.specs.Str.{bytes_eq}
 use Rattle.std.specs.List.{list_any}
-use Rattle.std.proofs.lemmas.Bool.{ltb-true, lt-ltb}
+use Rattle.std.proofs.lemmas.Bool.{lt-ltb}
 use Rattle.std.proofs.lemmas.List.Elements.{All-head}
 use Rattle.std.proofs.lemmas.Option.{same_Some}
 use Rattle.ax_keys.specs.declared.TheConstants.{MOST_FIRINGS}
@@ -44,7 +44,7 @@ use Rattle.ax_core.specs.declared.effects.Fired.{Fired}
 use Rattle.ax_core.specs.declared.controller.Controller.{Controller}
 use Rattle.ax_core.specs.Contexts.{answer_in}
 use Rattle.ax_core.specs.Keys.{KeyStands, PartStands}
-use Rattle.ax_core.specs.Flow.{on_the_way, IsFlow}
+use Rattle.ax_core.specs.Flow.{on_the_way}
 use Rattle.ax_core.specs.Epochs.{EpochsStand}
 use Rattle.ax_core.specs.Stands.{Stands}
 use Rattle.ax_core.specs.Sound.{rules_of, HasRooms, StandsFor, IsSound}
