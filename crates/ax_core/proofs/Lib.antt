@@ -27,3 +27,6 @@ pub mod Marked
 pub mod Closes
 pub mod Free
 pub mod ClosedBy
+pub mod Fires
+pub mod FiresFlow
+pub mod FiresStand

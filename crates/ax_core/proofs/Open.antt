@@ -111,7 +111,7 @@ module _ (a : Controller) (m : MachineControl) (h : EpochsStand a.epochs a.barri
       (so_or a.settings.serial (is_empty a.epochs.closed) (λ serial. empty_markers a.epochs.closed m.unsent h.markers (it.1 serial)))
 
 -- a key that is idle in the accounts is so in the control
-idle_stands : (p : Program) (ms : List Mail) (s : Slots Record) (key : Key) (part : Part) (due : List ℤ) (c : KeyControl) → PartStands p ms s key part due c → may_idle part ≡ true → is_idle_on c ≡ true
+pub idle_stands : (p : Program) (ms : List Mail) (s : Slots Record) (key : Key) (part : Part) (due : List ℤ) (c : KeyControl) → PartStands p ms s key part due c → may_idle part ≡ true → is_idle_on c ≡ true
 idle_stands p ms s key part due c h idle = of part.owner part.waiting c.owner c.waiting h.owner h.items idle
   where
     of : (o : Option Id) (is : List Item) (d : Option Context) (ws : List Waiting) → OwnerStands p ms s key o d → ItemsStand p ms s key is ws → (is_none o && is_mark (next_of is)) ≡ true → is_idle_with d ws ≡ true
@@ -134,10 +134,10 @@ module _ (a : Controller) (m : MachineControl) (h : StandsFor a m) where
       of [] x = refl
       of (k ∷ ks) x = false_true (sym (busy k) ∙ idle_stands a.program a.mails.mails a.contexts k (part_of a.accounts k) (times_of a.timers k) (m.controls k) (h.stands.keys k) (All-head (λ key. may_idle (part_of a.accounts key) ≡ true) k ks x))
 
-  has_space : HasRooms a → has_room a ≡ true → in_flight_on m < a.settings.in_flight
+  pub has_space : HasRooms a → has_room a ≡ true → in_flight_on m < a.settings.in_flight
   has_space rooms r = subst (λ (n : ℕ). n < a.settings.in_flight) h.stands.flight (subst (λ (n : ℕ). live_count a.contexts < n) rooms.contexts (ltb-true (live_count a.contexts) a.contexts.limit r))
 
-  space_has : HasRooms a → in_flight_on m < a.settings.in_flight → has_room a ≡ true
+  pub space_has : HasRooms a → in_flight_on m < a.settings.in_flight → has_room a ≡ true
   space_has rooms r = lt-ltb (live_count a.contexts) a.contexts.limit
       (subst (λ (n : ℕ). n < a.contexts.limit) (sym h.stands.flight) (subst (λ (n : ℕ). in_flight_on m < n) (sym rooms.contexts) r))
 
