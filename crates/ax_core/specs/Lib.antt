@@ -7,3 +7,4 @@ pub mod Sound
 pub mod Events
 pub mod May
 pub mod Batches
+pub mod Admissions
