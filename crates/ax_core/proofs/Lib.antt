@@ -30,3 +30,7 @@ pub mod ClosedBy
 pub mod Fires
 pub mod FiresFlow
 pub mod FiresStand
+pub mod Enters
+pub mod Numbers
+pub mod Rows
+pub mod Taken

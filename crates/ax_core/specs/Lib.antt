@@ -11,3 +11,4 @@ pub mod Batches
 pub mod Rooms
 pub mod Firings
 pub mod Closings
+pub mod Admissions

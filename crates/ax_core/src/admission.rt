@@ -1,20 +1,25 @@
 //! Rows come in.
-ghost use Rattle.std.specs.Prelude.{◌≡◌, ◌↔◌, true, IsTrue, IfOk, OnOk};
+ghost use Rattle.std.specs.Prelude.{◌≡◌, ◌<◌, ◌^◌, ◌++◌, ◌↔◌, true, length, IsTrue, IfOk, OnOk};
+ghost use Rattle.ax_context.specs.Slots.{live_count};
 ghost use Rattle.ax_account.specs.Accounts.{AreSound};
+ghost use Rattle.ax_time.specs.Epochs.{current_of, count_of, IsOpen};
 ghost use Rattle.ax_execution.specs.Machine.{Admit};
 ghost use Rattle.ax_execution.specs.MachineControls.{MachineControl};
 ghost use Rattle.ax_core.specs.May.{may_admit};
 ghost use Rattle.ax_core.specs.Sound.{StandsFor, IsSound};
 ghost use Rattle.ax_core.specs.Events.{SameRules, Makes, MayAdmitOn};
+ghost use Rattle.ax_core.specs.Admissions.{row_record, start_mails, TakesIn};
 
 use crate::controller::Controller;
 use crate::record::Record;
-use ax_account::{Accounting, Occupied};
+use ax_account::Occupied;
 use ax_base::{NoMemory, Nums};
-use ax_context::{Contexts, Id};
+use ax_context::Id;
 use ax_future::{Facts, Handler};
 use ax_keys::Key;
-use ax_mailbox::Mail;
+use ax_lang::program_is_accepted;
+use ax_mailbox::{Mail, Mailbox};
+use ax_time::epoch_laws::sizes_law;
 
 impl Controller {
     /// Whether a row may come in: no barrier waits to be sent, in serial mode no marker, there is room for one more context,
@@ -45,36 +50,56 @@ impl Controller {
         requires may { may_admit self.old ≡ true }
         ensures sound { OnOk result (IsSound self.new) }
         ensures same { OnOk result (SameRules self.old self.new) }
-        ensures event { IfOk result (λ n. (m : MachineControl) → StandsFor self.old m → Makes self.old self.new (Admit n key.now time values.now) m) }
+        ensures event { IfOk result (λ n. (m : MachineControl) → StandsFor self.old m → Makes self.old self.new (Admit n key time values) m) }
     {
-        let epoch = self.epochs.current();
+        sizes_law(&self.epochs);
+        program_is_accepted();
+        let record = self.on_row(key, time, values);
+        let id = self.take_in(record)?;
+        Ok(self.contexts.number(id))
+    }
+
+    // A row that hasn't begun.
+    fn on_row(&self, key: Key, time: i64, values: Nums) -> Record
+        ensures { result ≡ row_record key time self.now.wm values }
+    {
         let facts = Facts {
             key,
             time,
             wm: self.wm,
             values,
         };
-        let id = self.contexts.make(
-            Record {
-                facts,
-                handler: Handler::Row,
-                machine: None,
-            },
-            epoch,
-        );
-        self.epochs.enter(epoch);
-        if let Occupied::Owner = occupy(&mut self.accounts, &self.contexts, id)? {
-            self.mails.post(Mail::Start { id });
+        Record {
+            facts,
+            handler: Handler::Row,
+            machine: None,
         }
-        Ok(self.contexts.number(id))
+    }
+
+    // A context of the current epoch comes for its key.
+    fn take_in(&mut self, r: Record) -> Result<Id, NoMemory>
+        requires room { live_count self.old.contexts < self.old.contexts.limit }
+        requires open { IsOpen self.old.epochs (current_of self.old.epochs) }
+        requires few { count_of self.old.epochs (current_of self.old.epochs) < 2 ^ 63 }
+        requires mails { length self.old.mails.mails < self.old.mails.room }
+        ensures { IfOk result (λ id. TakesIn self.old self.new r id) }
+    {
+        let epoch = self.epochs.current();
+        let id = self.contexts.make(r, epoch);
+        let taken = self.accounts.occupy(&self.contexts.get(id).facts.key, id)?;
+        self.epochs.enter(epoch);
+        start_owner(&mut self.mails, taken, id);
+        Ok(id)
     }
 }
 
-// A context comes for its key.
-fn occupy(
-    accounts: &mut Accounting,
-    contexts: &Contexts<Record>,
-    id: Id,
-) -> Result<Occupied, NoMemory> {
-    accounts.occupy(&contexts.get(id).facts.key, id)
+// An owner is to be started.
+fn start_owner(mails: &mut Mailbox, taken: Occupied, id: Id)
+    requires { length mails.old.mails < mails.old.room }
+    ensures mails { mails.new.mails ≡ mails.old.mails ++ start_mails taken id }
+    ensures room { mails.new.room ≡ mails.old.room }
+{
+    if let Occupied::Owner = taken {
+        mails.post(Mail::Start { id });
+    }
 }
