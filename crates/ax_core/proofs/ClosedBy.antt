@@ -1,10 +1,9 @@
 -- An epoch is closed by a barrier, and by a watermark.
-use Rattle.std.proofs.Common.{◌≡◌, ◌≤◌, ◌<◌, ◌↔◌, ℕ, zero, suc, ◌+◌, nat_eq, ℤ, ◌≤ℤ◌, ◌<ℤ◌, int_le, int_lt, List, [], ◌∷◌, length, Bool, true, false, not, cond, ◌&&◌, ◌||◌, Option, Some, None, is_none, Ordering, Less, Equal, Greater, refl, sym, ap, ap₂, ◌∙◌, subst, arith, rules, ◌⊎◌, inl, inr, ⊎_elim, eqb-true}
+use Rattle.std.proofs.Common.{◌≡◌, ◌≤◌, ◌<◌, ◌↔◌, ℕ, zero, suc, ◌+◌, nat_eq, ℤ, ◌≤ℤ◌, ◌<ℤ◌, int_le, int_lt, List, [], ◌∷◌, length, Bool, true, false, not, cond, ◌&&◌, ◌||◌, Option, Some, None, is_none, Ordering, Less, Equal, Greater, refl, sym, ap, ap₂, ◌∙◌, subst, arith, rules, ⊎_elim, eqb-true}
 use lib.Dec.{T, ltb→lt}
 use lib.IntN.{pos, negsuc}
 use lib.Signed.{lt_z_yes, <ℤ-≤ℤ_trans}
 use Rattle.std.proofs.lemmas.Int.{by_lt_z}
-use Rattle.std.proofs.lemmas.Bool.{eq-eqb}
 use Rattle.std.proofs.lemmas.Map.Lookups.{exact_bytes}
 use Rattle.std.proofs.lemmas.Cmp.{nat_list_cmp_total, tied_itself}
 use Rattle.std.specs.Ordering.{is_eq, int_cmp}
@@ -27,18 +26,16 @@ use Rattle.ax_future.specs.declared.machine.Machine.{Machine as CodeMachine}
 use Rattle.ax_text.specs.declared.vocabulary.Handler.{Handler}
 use Rattle.ax_text.specs.declared.vocabulary.Handler.TheVariants as handler
 use Rattle.ax_account.specs.Accounts.{Accounts, owner_of, part_of, busy_keys, AreSound}
-use Rattle.ax_time.specs.declared.epoch.Marker.{Marker}
 use Rattle.ax_time.specs.declared.epoch.Marker.TheVariants as marker
 use Rattle.ax_time.specs.Epochs.{Book, Fits64, current_of, count_of, closed_by}
 use Rattle.ax_time.specs.Timers.{times_of}
 use Rattle.ax_execution.specs.Sums.{total}
 use Rattle.ax_execution.specs.Contexts.{Context, Waiting, Row, Mark, owners, rows_in, is_due}
 use Rattle.ax_execution.specs.Counts.{one_at, row_of_epoch, owner_of_epoch, waiting_of_epoch, counted}
-use Rattle.ax_execution.specs.KeyControls.{KeyControl}
 use Rattle.ax_execution.specs.ControlTurns.{contexts_on, mark_on}
-use Rattle.ax_execution.specs.Machine.{ByWatermark, ByBarrier, Close, Rules}
+use Rattle.ax_execution.specs.Machine.{ByWatermark, ByBarrier, Close}
 use Rattle.ax_execution.specs.MachineControls.{MachineControl, happens_on, in_flight_on, control_of_epoch, epoch_count_on}
-use Rattle.ax_execution.specs.ControlsAllowed.{AllowedOn, IsFreeOn, HoldBusy}
+use Rattle.ax_execution.specs.ControlsAllowed.{AllowedOn}
 use Rattle.ax_execution.specs.ControlChanges.{mark_stays}
 use Rattle.ax_execution.specs.Reached.{MarksBelow, IsOrderly}
 use Rattle.ax_execution.proofs.Upto.{by_cases}
@@ -55,7 +52,7 @@ use Rattle.ax_core.specs.Events.{Makes}
 use Rattle.ax_core.proofs.Open.{is_open}
 use Rattle.ax_core.proofs.Sends.{accepted}
 use Rattle.ax_core.proofs.Sent.{with_epochs}
-use Rattle.ax_core.proofs.Marking.{BookLaws, Midway, Stays, free_part, free_control}
+use Rattle.ax_core.proofs.Marking.{BookLaws, Midway, free_part, free_control}
 use Rattle.ax_core.proofs.Marked.{with_controls, marked_at, Through, all_marked, free_marked, all_have_it}
 use Rattle.ax_core.proofs.Closes.{CountsKept, none_yet, closed_stands}
 

@@ -1,16 +1,13 @@
 -- The controller behind an epoch that is closed.
-use Rattle.std.proofs.Common.{◌≡◌, ◌≤◌, ◌<◌, ℕ, zero, suc, ◌+◌, ◌-◌, ◌%◌, ◌^◌, nat_eq, ℤ, ◌<ℤ◌, int_lt, List, [], ◌∷◌, ◌++◌, length, map, Bool, true, false, not, cond, ◌&&◌, Option, Some, None, refl, sym, ap, ap₂, ◌∙◌, subst, arith, eqb-true}
+use Rattle.std.proofs.Common.{◌≡◌, ◌≤◌, ◌<◌, ℕ, suc, ◌+◌, ◌-◌, ◌%◌, ◌^◌, nat_eq, ℤ, List, [], ◌∷◌, ◌++◌, length, Bool, true, false, not, cond, ◌&&◌, Option, Some, None, refl, sym, ap, ap₂, ◌∙◌, subst, arith, eqb-true}
 use Rattle.std.proofs.lemmas.Bool.{eq-eqb}
-use Rattle.std.specs.Str.{bytes_eq}
-use Rattle.std.specs.List.{list_any}
 use Rattle.ax_text.specs.declared.vocabulary.Handler.{Handler}
 use Rattle.ax_text.specs.declared.vocabulary.Handler.TheVariants as handler
-use Rattle.ax_lang.specs.Shown.{shown_program}
 use Rattle.ax_machine.specs.Entries.{Key}
 use Rattle.ax_time.specs.declared.epoch.Marker.{Marker}
 use Rattle.ax_time.specs.declared.epoch.Marker.TheVariants as marker
 use Rattle.ax_time.specs.declared.epoch.Closed.{Closed as Ended}
-use Rattle.ax_time.specs.Epochs.{Book, Fits64, current_of, place_of, count_of, count_at, closed_by, markers_of}
+use Rattle.ax_time.specs.Epochs.{Book, Fits64, count_of, count_at, closed_by, markers_of}
 use Rattle.ax_execution.specs.Contexts.{Context, Waiting, Row, Mark}
 use Rattle.ax_execution.specs.Counts.{one_at, row_of_epoch, owner_of_epoch, waiting_of_epoch}
 use Rattle.ax_execution.specs.Machine.{Closing, ByWatermark, ByBarrier, Closed}

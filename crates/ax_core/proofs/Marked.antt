@@ -1,6 +1,6 @@
 -- A watermark waits at many keys, one after the other.
 use mathlib.Core.Path.{fun_ext}
-use Rattle.std.proofs.Common.{◌≡◌, ℕ, suc, ◌+◌, ℤ, List, [], ◌∷◌, ◌++◌, Bool, true, false, cond, ◌||◌, Option, Some, None, Ordering, Less, Equal, refl, sym, ap, ap₂, ◌∙◌, subst, ◌⊎◌, inl, inr, ⊎_elim}
+use Rattle.std.proofs.Common.{◌≡◌, ℤ, List, [], ◌∷◌, ◌++◌, Bool, true, false, cond, ◌||◌, Option, Some, None, Less, Equal, refl, sym, ap, ◌∙◌, subst, ◌⊎◌, inl, inr, ⊎_elim}
 use Rattle.std.specs.Str.{bytes_eq}
 use Rattle.std.specs.List.{list_any, AllByRecursion}
 use Rattle.std.specs.List.Sorted.{IsStrictlySortedBy}
@@ -10,7 +10,7 @@ use Rattle.ax_keys.specs.Keys.{key_cmp}
 use Rattle.ax_machine.specs.Entries.{Key}
 use Rattle.ax_machine.specs.Firings.{most_firings}
 use Rattle.ax_machine.proofs.FiringLemmas.{key_is, same_key, has_head, has_tail, among}
-use Rattle.ax_account.specs.Parts.{Part, is_free}
+use Rattle.ax_account.specs.Parts.{is_free}
 use Rattle.ax_account.specs.Accounts.{part_of}
 use Rattle.ax_time.specs.Timers.{times_of}
 use Rattle.ax_execution.specs.Contexts.{Context, Waiting, Mark, is_due}

@@ -1,10 +1,10 @@
 -- A watermark waits at one more key.
-use Rattle.std.proofs.Common.{◌≡◌, ◌≢◌, ◌≤◌, ◌<◌, ℕ, zero, suc, ◌+◌, ◌-◌, ◌%◌, ◌^◌, nat_eq, ℤ, List, [], ◌∷◌, ◌++◌, length, Bool, true, false, cond, ◌&&◌, ◌||◌, Option, Some, None, is_none, refl, sym, ap, ap₂, ◌∙◌, subst, arith, eqb-true}
+use Rattle.std.proofs.Common.{◌≡◌, ◌≤◌, ◌<◌, ℕ, ◌+◌, ◌-◌, ◌%◌, ◌^◌, nat_eq, ℤ, List, [], ◌∷◌, ◌++◌, length, Bool, true, false, cond, ◌||◌, Option, Some, None, refl, sym, ap, ap₂, ◌∙◌, subst, arith, eqb-true}
 use Rattle.std.specs.Ordering.{is_eq}
 use Rattle.std.specs.Str.{bytes_eq}
 use Rattle.std.specs.List.{list_any}
 use Rattle.std.specs.List.Sorted.{IsStrictlySortedBy}
-use Rattle.std.proofs.lemmas.Bool.{cond-true, cond-false, eq-eqb}
+use Rattle.std.proofs.lemmas.Bool.{cond-true, eq-eqb}
 use Rattle.std.proofs.lemmas.Cmp.{nat_list_cmp_total, tied_itself}
 use Rattle.ax_keys.specs.Keys.{key_cmp}
 use Rattle.ax_lang.specs.declared.program.Program.{Program}
@@ -14,11 +14,10 @@ use Rattle.ax_machine.proofs.FiringLemmas.{key_is, same_key}
 use Rattle.ax_context.specs.declared.id.Id.{Id}
 use Rattle.ax_context.specs.Slots.{Slots, live_count}
 use Rattle.ax_account.specs.declared.part.Waiting.{Waiting as Item}
-use Rattle.ax_account.specs.declared.part.Waiting.TheVariants as item
 use Rattle.ax_account.specs.Parts.{Part, is_free, waits}
 use Rattle.ax_account.specs.Queues.{has_key}
 use Rattle.ax_account.specs.Queues as queues
-use Rattle.ax_account.specs.Accounts.{part_of, mark, idle_with}
+use Rattle.ax_account.specs.Accounts.{part_of, mark}
 use Rattle.ax_mailbox.specs.declared.mail.Mail.{Mail}
 use Rattle.ax_time.specs.declared.epoch.Marker.{Marker}
 use Rattle.ax_time.specs.Epochs.{Book, Fits64, IsOpen, current_of, count_of, with_count, markers_of}

@@ -1,5 +1,5 @@
 -- The marker of the oldest closed epoch, which is sent once nothing of that epoch is left.
-use Rattle.std.proofs.Common.{◌≡◌, ◌≤◌, ◌<◌, ℕ, zero, suc, ◌+◌, ◌-◌, ◌%◌, ◌^◌, nat_eq, nat_lt, List, [], ◌∷◌, ◌++◌, length, drop, Bool, true, false, not, cond, ◌&&◌, ◌==◌, Option, Some, None, refl, sym, ap, ap₂, ◌∙◌, subst, arith, eqb-true, ltb-true, ltb-false}
+use Rattle.std.proofs.Common.{◌≡◌, ◌≤◌, ◌<◌, ℕ, suc, ◌+◌, ◌-◌, ◌%◌, ◌^◌, nat_eq, nat_lt, List, [], ◌∷◌, ◌++◌, length, Bool, cond, Option, Some, None, refl, sym, ap, ap₂, ◌∙◌, subst, arith, eqb-true, ltb-true, ltb-false}
 use Rattle.std.proofs.lemmas.Bool.{eq-eqb}
 use Rattle.std.specs.Str.{bytes_eq}
 use Rattle.std.specs.List.{list_any}
@@ -10,26 +10,22 @@ use Rattle.ax_text.specs.Programs.{Program}
 use Rattle.ax_lang.specs.declared.program.Program.{Program as CodeProgram}
 use Rattle.ax_lang.specs.Shown.{shown_program}
 use Rattle.ax_lang.proofs.ProgramLemmas.{row_accepted, timer_accepted}
-use Rattle.ax_machine.specs.Entries.{Key}
-use Rattle.ax_time.specs.declared.epoch.Marker.{Marker}
-use Rattle.ax_time.specs.declared.epoch.Marker.TheVariants as marker
 use Rattle.ax_time.specs.declared.epoch.Closed.{Closed as Ended}
-use Rattle.ax_time.specs.Epochs.{Book, Fits64, current_of, place_of, count_of, count_at, markers_of}
+use Rattle.ax_time.specs.Epochs.{Book, Fits64, count_of, count_at, markers_of}
 use Rattle.ax_execution.specs.Accepted.{AreAccepted}
-use Rattle.ax_execution.specs.Origins.{Origin, IsOrigin}
 use Rattle.ax_execution.specs.Contexts.{Context, Waiting, Row, Mark}
 use Rattle.ax_execution.specs.Counts.{one_at, row_of_epoch, owner_of_epoch, waiting_of_epoch}
-use Rattle.ax_execution.specs.Machine.{Closing, ByWatermark, ByBarrier, Closed, Happening, Admit, Close, Fire, Start, Serve, Deliver, Send, Rules}
+use Rattle.ax_execution.specs.Machine.{ByWatermark, ByBarrier, Closed, Happening, Admit, Close, Fire, Start, Serve, Deliver, Send, Rules}
 use Rattle.ax_execution.specs.Allowed.{IsWatermark, NoBarrier, OwnedLater, WaitLater}
-use Rattle.ax_execution.specs.MachineControls.{MachineControl, at_origin, send_first_on, happens_on, control_of_epoch, epoch_count_on}
+use Rattle.ax_execution.specs.MachineControls.{MachineControl, send_first_on, happens_on, control_of_epoch, epoch_count_on}
 use Rattle.ax_execution.specs.ControlsAllowed.{AllowedOn, IsAnswered, IsFinishedOn}
-use Rattle.ax_execution.specs.Reached.{IsReached, IsOpenEpoch, OwnerOpen, WaitingOpen, Follow, MarkInFront, IsOrderly}
+use Rattle.ax_execution.specs.Reached.{IsReached, OwnerOpen, WaitingOpen, Follow, MarkInFront, IsOrderly}
 use Rattle.ax_execution.proofs.KeySums.{in_total}
 use Rattle.ax_execution.proofs.Stuck.{zeros}
 use Rattle.ax_execution.proofs.Upto.{by_cases}
 use Rattle.ax_execution.proofs.ReachedLemmas.{everywhere}
 use Rattle.ax_core.specs.Contexts.{wrapped}
-use Rattle.ax_core.specs.Epochs.{marker_of, closing_of, MarkersStand, EpochsStand}
+use Rattle.ax_core.specs.Epochs.{MarkersStand, EpochsStand}
 
 pub accepted : (p : CodeProgram) → AreAccepted (shown_program p)
 accepted p = record { row = row_accepted p; timer = timer_accepted p }

@@ -1,17 +1,16 @@
 -- The controller behind a marker that is sent, and where none can be.
-use Rattle.std.proofs.Common.{◌≡◌, ◌≤◌, ◌<◌, ℕ, zero, suc, ◌+◌, ◌-◌, ◌%◌, ◌^◌, nat_eq, List, [], ◌∷◌, length, drop, Bool, true, false, not, cond, ◌&&◌, ◌==◌, Option, Some, None, refl, sym, ap, ap₂, ◌∙◌, subst, arith, eqb-true}
+use Rattle.std.proofs.Common.{◌≡◌, ◌<◌, ℕ, suc, ◌+◌, ◌%◌, ◌^◌, List, [], ◌∷◌, length, drop, Bool, true, false, not, cond, ◌&&◌, ◌==◌, Option, Some, None, refl, sym, ap, ◌∙◌, subst, arith, eqb-true}
 use Rattle.std.specs.Prelude.{unwrap_or}
 use Rattle.std.proofs.lemmas.Bool.{cond-true, cond-false, eq-eqb}
 use Rattle.ax_lang.specs.Shown.{shown_program}
 use Rattle.ax_time.specs.declared.epoch.Marker.{Marker}
-use Rattle.ax_time.specs.declared.epoch.Marker.TheVariants as marker
 use Rattle.ax_time.specs.declared.epoch.Closed.{Closed as Ended}
 use Rattle.ax_time.specs.Epochs.{Book, Fits64, current_of, count_of, markers_of, is_finished, next_action, taken}
-use Rattle.ax_execution.specs.Machine.{Closing, ByWatermark, ByBarrier, Closed, Send, Rules}
+use Rattle.ax_execution.specs.Machine.{Closing, ByWatermark, ByBarrier, Closed, Send}
 use Rattle.ax_execution.specs.Allowed.{IsWatermark}
 use Rattle.ax_execution.specs.Tests.{is_watermark, no_barrier}
 use Rattle.ax_execution.specs.MachineControls.{MachineControl, send_first_on, happens_on}
-use Rattle.ax_execution.specs.ControlsAllowed.{AllowedOn, IsFinishedOn, FirstIsFinishedOn}
+use Rattle.ax_execution.specs.ControlsAllowed.{AllowedOn, FirstIsFinishedOn}
 use Rattle.ax_execution.specs.Reached.{IsReached, IsOrderly}
 use Rattle.ax_execution.proofs.ReachedLemmas.{event_reached}
 use Rattle.ax_execution.proofs.ReachedOrderly.{reached_orderly}
@@ -19,10 +18,9 @@ use Rattle.ax_core.specs.declared.controller.Controller.{Controller}
 use Rattle.ax_core.specs.Contexts.{wrapped}
 use Rattle.ax_core.specs.Epochs.{marker_of, closing_of, MarkersStand, EpochsStand}
 use Rattle.ax_core.specs.Closings.{barrier_left}
-use Rattle.ax_core.specs.Stands.{Stands}
 use Rattle.ax_core.specs.Sound.{rules_of, StandsFor, IsSound}
-use Rattle.ax_core.specs.Events.{Makes, IsFirstClosed, Sends, StaysUnsent, SendsNext}
-use Rattle.ax_core.proofs.Sends.{accepted, BarrierLast, barrier_last, markers_length, first_epoch, finished_zero, zero_finished}
+use Rattle.ax_core.specs.Events.{IsFirstClosed, Sends, StaysUnsent, SendsNext}
+use Rattle.ax_core.proofs.Sends.{accepted, BarrierLast, barrier_last, finished_zero, zero_finished}
 
 -- a controller with another book
 abbrev pub with_epochs : Controller → Bool → Book → Controller

@@ -2,8 +2,7 @@ use Rattle.std.proofs.Common.{true, ℤ, w64, to_z, of_z, sym, subst}
 use Rattle.std.proofs.lemmas.Int.{to_z-of_z}
 use Rattle.ax_time.specs.Epochs.{Book, Fits64}
 use Rattle.ax_execution.specs.Machine.{Close, ByBarrier}
-use Rattle.ax_execution.specs.MachineControls.{MachineControl}
-use Rattle.ax_core.specs.Sound.{StandsFor, IsSound}
+use Rattle.ax_core.specs.Sound.{IsSound}
 use Rattle.ax_core.specs.Events.{Makes}
 use Rattle.ax_core.proofs.Sent.{with_epochs}
 use Rattle.ax_core.proofs.ClosedBy.{barrier_closes, barrier_sound}
