@@ -1,9 +1,7 @@
 -- A row that comes: what stands for the keys, and what of the flow changes.
-use Rattle.std.proofs.Common.{◌≡◌, ◌≢◌, ℕ, zero, suc, ◌+◌, nat_eq, ℤ, List, [], ◌∷◌, ◌++◌, Bool, true, false, cond, ◌&&◌, Option, Some, None, is_none, IsSomeAnd, refl, sym, ap, ap₂, ◌∙◌, subst, arith}
+use Rattle.std.proofs.Common.{◌≡◌, ℕ, ℤ, List, [], ◌∷◌, ◌++◌, true, false, Option, Some, None, IsSomeAnd, refl, sym, ap, ◌∙◌, subst}
 use Rattle.std.specs.Str.{bytes_eq}
-use Rattle.std.proofs.lemmas.Bool.{cond-true, cond-false}
 use Rattle.ax_text.specs.Exprs.{Facts}
-use Rattle.ax_text.specs.declared.vocabulary.Handler.{Handler}
 use Rattle.ax_text.specs.declared.vocabulary.Handler.TheVariants as handler
 use Rattle.ax_lang.specs.declared.program.Program.{Program}
 use Rattle.ax_future.specs.declared.machine.Machine.{Machine as CodeMachine}
@@ -18,16 +16,16 @@ use Rattle.ax_account.specs.declared.part.Waiting.TheVariants as item
 use Rattle.ax_account.specs.Parts.{Part}
 use Rattle.ax_account.specs.Accounts.{Accounts, part_of, Changes, occupied}
 use Rattle.ax_mailbox.specs.declared.mail.Mail.{Mail}
-use Rattle.ax_execution.specs.Contexts.{Stage, Unbegun, Context, row_context, Waiting, Row, Mark, is_idle_with}
+use Rattle.ax_execution.specs.Contexts.{Unbegun, Context, row_context, Waiting, Row, Mark, is_idle_with}
 use Rattle.ax_execution.specs.KeyControls.{KeyControl}
 use Rattle.ax_execution.specs.ControlTurns.{is_idle_on, admit_at_on, admit_on}
 use Rattle.ax_execution.specs.MachineControls.{control_at}
 use Rattle.ax_execution.proofs.Upto.{by_cases}
 use Rattle.ax_execution.proofs.SingleKeys.{own_control, other_control}
 use Rattle.ax_core.specs.declared.record.Record.{Record}
-use Rattle.ax_core.specs.Contexts.{wrapped, answer_in, StageStands, IsJob, IsContext, ContextStands}
+use Rattle.ax_core.specs.Contexts.{wrapped, answer_in, StageStands, ContextStands}
 use Rattle.ax_core.specs.Keys.{OwnerStands, ItemsStand, PartStands}
-use Rattle.ax_core.proofs.Frames.{KeyIn, Keeps, owner_stays, items_stay, keep_all, part_stays, others_keep}
+use Rattle.ax_core.proofs.Frames.{KeyIn, Keeps, part_stays, others_keep}
 
 -- what is held of a new context of a row
 pub made_stands : (p : Program) (ns : List Mail) (key : Key) (id : Id) (o : Option (Held Record)) (r : Record) (epoch n e : ℕ) (f : Facts)

@@ -1,5 +1,5 @@
 -- A row enters the current epoch.
-use Rattle.std.proofs.Common.{◌≡◌, ℕ, zero, suc, ◌+◌, ◌-◌, ◌≤◌, ◌<◌, ◌%◌, ◌^◌, nat_eq, nat_lt, Bool, true, false, cond, not, List, [], ◌∷◌, length, Option, Some, None, refl, sym, ap, ap₂, ◌∙◌, subst, eqb-true, arith}
+use Rattle.std.proofs.Common.{◌≡◌, ℕ, zero, suc, ◌+◌, ◌-◌, ◌≤◌, ◌<◌, ◌%◌, ◌^◌, nat_eq, nat_lt, Bool, true, false, cond, not, List, [], ◌∷◌, length, Option, Some, None, refl, sym, ap, ◌∙◌, subst, eqb-true, arith}
 use Rattle.std.proofs.lemmas.Bool.{eq-eqb, ltb-true, ltb-false}
 use Rattle.ax_text.specs.declared.vocabulary.Handler.{Handler}
 use Rattle.ax_text.specs.declared.vocabulary.Handler.TheVariants as handler
@@ -128,7 +128,7 @@ entered book closing m q fits h same unsent counts =
     record {
       current = ap (λ (k : ℕ). (book.oldest + k) % 2 ^ 64) (put_length book.closed (place_of book (current_of book)) n) ∙ (h.current ∙ ap wrapped (sym same));
       markers = subst (MarkersStand (markers_of (with_count book (current_of book) n).closed)) (sym unsent)
-      (subst (λ (ms : List Marker). MarkersStand ms m.unsent) (sym (put_markers book.closed (place_of book (current_of book)) n)) h.markers);
+          (subst (λ (ms : List Marker). MarkersStand ms m.unsent) (sym (put_markers book.closed (place_of book (current_of book)) n)) h.markers);
       counts = λ e below near. of e (omega (arith, below, same)) (omega (arith, near, same, ap length unsent));
       barrier = h.barrier ∙ ap (λ (cs : List Closed). not (no_barrier cs)) (sym unsent);
     }

@@ -1,31 +1,20 @@
 -- The flow of the requests where a row comes.
-use Rattle.std.proofs.Common.{◌≡◌, ◌≢◌, ℕ, zero, suc, ◌+◌, nat_eq, ℤ, List, [], ◌∷◌, ◌++◌, length, Bool, true, false, cond, ◌&&◌, if◌then◌else◌, Option, Some, None, is_none, refl, sym, ap, ap₂, ◌∙◌, subst, arith, eqb-true}
-use Rattle.std.specs.List.{Contains}
-use Rattle.std.proofs.lemmas.Bool.{cond-true, cond-false, eq-eqb}
-use Rattle.std.specs.Str.{bytes_eq}
+use Rattle.std.proofs.Common.{◌≡◌, ◌≢◌, ℕ, ◌+◌, nat_eq, List, [], ◌∷◌, ◌++◌, true, false, Option, Some, None, refl, sym, ap, ◌∙◌, subst, arith, eqb-true}
+use Rattle.std.proofs.lemmas.Bool.{eq-eqb}
 use Rattle.ax_lang.specs.declared.program.Program.{Program}
-use Rattle.ax_future.specs.declared.machine.Machine.{Machine as CodeMachine}
 use Rattle.ax_machine.specs.Entries.{Key}
-use Rattle.ax_machine.proofs.FiringLemmas.{key_is, same_key}
-use Rattle.ax_buffer.specs.declared.items.Item.{Item as Request}
-use Rattle.ax_buffer.specs.Buffer.{queue_of}
 use Rattle.ax_context.specs.declared.id.Id.{Id}
 use Rattle.ax_context.specs.declared.contexts.Context.{Context as Held}
 use Rattle.ax_context.specs.Ids.{slot_of}
-use Rattle.ax_context.specs.Slots.{Slots, at, OthersStay}
-use Rattle.ax_account.specs.declared.part.Waiting.{Waiting as Item}
-use Rattle.ax_account.specs.Parts.{Part, free, is_empty, is_free, owned}
-use Rattle.ax_account.specs.Accounts.{Accounts, part_of, owner_of, Changes, occupied}
+use Rattle.ax_context.specs.Slots.{Slots, at}
 use Rattle.ax_mailbox.specs.declared.mail.Mail.{Mail}
 use Rattle.ax_mailbox.specs.declared.mail.Mail.TheVariants as mail
 use Rattle.ax_execution.specs.Contexts.{Context}
 use Rattle.ax_execution.proofs.Upto.{by_cases}
 use Rattle.ax_core.specs.declared.record.Record.{Record}
-use Rattle.ax_core.specs.declared.record.Name.{Name}
-use Rattle.ax_core.specs.declared.controller.Controller.{Controller}
-use Rattle.ax_core.specs.Contexts.{same_id, ContextStands, waits_at}
+use Rattle.ax_core.specs.Contexts.{same_id, ContextStands}
 use Rattle.ax_core.specs.Keys.{OwnerStands}
-use Rattle.ax_core.specs.Flow.{one_if, answers_as, answered_as, starts_as, started_as, in_queues, in_outs, waits_for, is_owner, is_to_start, QueuedStands, OutStands, out_of, IsFlow}
+use Rattle.ax_core.specs.Flow.{one_if, answers_as, answered_as, started_as, is_owner}
 
 pub start_answered : (ms : List Mail) (one id : Id) (slot : ℕ) → answered_as id slot (ms ++ mail.Start one ∷ []) ≡ answered_as id slot ms
 start_answered [] one id slot = refl

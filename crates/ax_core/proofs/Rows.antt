@@ -1,11 +1,9 @@
 -- A row that comes in, as an event of the machine.
-use Rattle.std.proofs.Common.{◌≡◌, ◌≢◌, ℕ, ◌+◌, ◌*◌, ◌≤◌, ◌<◌, ◌^◌, ℤ, List, [], ◌∷◌, ◌++◌, length, Bool, true, false, cond, ◌&&◌, if◌then◌else◌, Option, Some, None, is_none, IsSomeAnd, refl, sym, ap, ap₂, ◌∙◌, subst, add-mul, mul-le-mul_right, length-append, arith}
-use Rattle.std.specs.List.{Contains}
+use Rattle.std.proofs.Common.{◌≡◌, ℕ, ◌+◌, ◌*◌, ◌≤◌, ◌<◌, ◌^◌, ℤ, List, [], ◌∷◌, ◌++◌, length, Bool, true, false, cond, ◌&&◌, if◌then◌else◌, Option, Some, None, is_none, IsSomeAnd, refl, sym, ap, ◌∙◌, subst, add-mul, mul-le-mul_right, length-append, arith}
 use Rattle.std.specs.Str.{bytes_eq}
 use Rattle.std.proofs.lemmas.Bool.{ltb-true}
 use Rattle.std.proofs.lemmas.List.{append-nil}
 use Rattle.ax_text.specs.Programs.{program_width}
-use Rattle.ax_text.specs.Exprs.{Facts}
 use Rattle.ax_text.specs.declared.vocabulary.Handler.TheVariants as handler
 use Rattle.ax_lang.specs.Shown.{shown_program}
 use Rattle.ax_future.specs.declared.machine.Machine.{Machine as CodeMachine}
@@ -13,25 +11,23 @@ use Rattle.ax_future.specs.Talks.{facts_in}
 use Rattle.ax_machine.specs.Entries.{Key}
 use Rattle.ax_machine.proofs.FiringLemmas.{key_is, same_key}
 use Rattle.ax_buffer.specs.declared.items.Item.{Item as Request}
-use Rattle.ax_buffer.specs.Buffer.{queue_of, total}
 use Rattle.ax_context.specs.declared.id.Id.{Id}
 use Rattle.ax_context.specs.declared.contexts.Context.{Context as Held}
-use Rattle.ax_context.specs.Slots.{Slots, at, Has, live_count, IsTaken, IsFirstFree}
+use Rattle.ax_context.specs.Slots.{at, Has, live_count, IsTaken, IsFirstFree}
 use Rattle.ax_account.specs.declared.part.Waiting.{Waiting as Item}
 use Rattle.ax_account.specs.declared.part.Occupied.{Occupied}
 use Rattle.ax_account.specs.declared.part.Occupied.TheVariants.{Owner, Waits}
 use Rattle.ax_account.specs.Parts.{Part, is_free, is_empty, owned, waits}
 use Rattle.ax_account.specs.declared.part.Waiting.TheVariants.{Row as RowWaits}
-use Rattle.ax_account.specs.Accounts.{Accounts, part_of, owner_of, Changes, answer_to, occupied}
+use Rattle.ax_account.specs.Accounts.{part_of, owner_of, answer_to, occupied}
 use Rattle.ax_account.specs.Queues.{has_key}
 use Rattle.ax_mailbox.specs.declared.mail.Mail.{Mail}
 use Rattle.ax_time.specs.Timers.{times_of}
 use Rattle.ax_time.specs.Epochs.{Book, Fits64, current_of, count_of}
 use Rattle.ax_execution.specs.Accepted.{AreAccepted}
-use Rattle.ax_execution.specs.Contexts.{Context, row_context, Waiting}
+use Rattle.ax_execution.specs.Contexts.{Context, Waiting}
 use Rattle.ax_execution.specs.Counts.{one_at, counted}
 use Rattle.ax_execution.specs.Groups.{row_facts}
-use Rattle.ax_execution.specs.KeyControls.{KeyControl}
 use Rattle.ax_execution.specs.ControlTurns.{is_idle_on, admit_on}
 use Rattle.ax_execution.specs.Machine.{Admit}
 use Rattle.ax_execution.specs.MachineControls.{MachineControl, control_at, happens_on, in_flight_on, epoch_count_on}
@@ -49,9 +45,9 @@ use Rattle.ax_execution.proofs.ReachedOrderly.{reached_orderly, reached_in_order
 use Rattle.ax_core.specs.declared.record.Record.{Record}
 use Rattle.ax_core.specs.declared.record.Name.{Name}
 use Rattle.ax_core.specs.declared.controller.Controller.{Controller}
-use Rattle.ax_core.specs.Contexts.{same_id, answer_in, wrapped, ContextStands, waits_in, waits_at}
-use Rattle.ax_core.specs.Keys.{OwnerStands, ItemsStand, PartStands, KeyStands}
-use Rattle.ax_core.specs.Flow.{one_if, answered_as, started_as, in_queues, in_outs, waits_for, is_owner, is_to_start, OwnsBegun, OwnsOnceBegun, QueuedStands, OutStands, out_of, IsFlow, on_the_way}
+use Rattle.ax_core.specs.Contexts.{same_id, answer_in, waits_in, waits_at}
+use Rattle.ax_core.specs.Keys.{OwnerStands, ItemsStand, KeyStands}
+use Rattle.ax_core.specs.Flow.{one_if, answered_as, started_as, in_queues, in_outs, waits_for, is_owner, is_to_start, OwnsBegun, OwnsOnceBegun, QueuedStands, OutStands, IsFlow, on_the_way}
 use Rattle.ax_core.specs.Epochs.{EpochsStand}
 use Rattle.ax_core.specs.Stands.{Stands}
 use Rattle.ax_core.specs.Sound.{rules_of, HasRooms, StandsFor, IsSound}
@@ -60,12 +56,12 @@ use Rattle.ax_core.specs.Events.{SameRules, Makes, MayAdmitOn}
 use Rattle.ax_core.specs.Admissions.{start_mails, TakesIn}
 use Rattle.ax_core.proofs.Frames.{started_answers}
 use Rattle.ax_core.proofs.Admits.{made_stands, keys_admit, idle_admits}
-use Rattle.ax_core.proofs.Flows.{same_self, same_is, other_ids, owner_is_live}
+use Rattle.ax_core.proofs.Flows.{same_is, other_ids, owner_is_live}
 use Rattle.ax_core.proofs.Open.{and_parts, may_is}
 use Rattle.ax_core.proofs.Counting.{answered_append, started_append}
 use Rattle.ax_core.proofs.Deliveries.{owed_bound}
 use Rattle.ax_core.proofs.Numbers.{is_new}
-use Rattle.ax_core.proofs.Enters.{current_few, current_is_open, current_count, entered}
+use Rattle.ax_core.proofs.Enters.{current_few, current_count, entered}
 
 clash : true ≡ false → ⊥
 clash e = cc e

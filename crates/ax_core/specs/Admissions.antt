@@ -1,5 +1,5 @@
 -- A row that comes in: its context, what its key gets, and its mail.
-use Rattle.std.specs.Prelude.{◌≡◌, ◌+◌, ℤ, List, [], ◌∷◌, ◌++◌, Option, None}
+use Rattle.std.specs.Prelude.{◌≡◌, ◌+◌, ℤ, List, [], ◌∷◌, ◌++◌, None}
 use Rattle.ax_text.specs.declared.vocabulary.Handler.TheVariants as handler
 use Rattle.ax_machine.specs.Entries.{Key}
 use Rattle.ax_context.specs.declared.id.Id.{Id}

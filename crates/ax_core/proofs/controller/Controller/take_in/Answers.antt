@@ -31,7 +31,7 @@ returns c =
       part = subst (λ (v : Record). Changes c.args.self.now.accounts c.occupy.new.self v.facts.key (occupied c.make-id.result (part_of c.args.self.now.accounts v.facts.key))) got c.in_ok-taken.ensures.part;
       idle = c.in_ok-taken.ensures.idle;
       mails = c.start_owner.ensures.mails ∙ ap (λ (o : Occupied). c.args.self.now.mails.mails ++ start_mails o c.make-id.result)
-      (c.in_ok-taken.ensures.answer ∙ ap (λ (v : Record). answer_to (part_of c.args.self.now.accounts v.facts.key)) got);
+          (c.in_ok-taken.ensures.answer ∙ ap (λ (v : Record). answer_to (part_of c.args.self.now.accounts v.facts.key)) got);
       room = c.start_owner.ensures.room;
       epochs = c.enter.ensures ∙ ap (λ (e : ℕ). with_count c.args.self.now.epochs e (count_of c.args.self.now.epochs e + 1)) c.current-epoch.ensures;
     }
