@@ -11,6 +11,8 @@ pub mod EventLemmas
 pub mod Flows
 pub mod Forgotten
 pub mod Frames
+pub mod GetLemmas
+pub mod GoLemmas
 pub mod HandLemmas
 pub mod LeaveLemmas
 pub mod MarkLemmas
