@@ -16,6 +16,8 @@ pub mod Deliveries
 pub mod EventLemmas
 pub mod Forgotten
 pub mod Frames
+pub mod GetLemmas
+pub mod GoLemmas
 pub mod HandLemmas
 pub mod LeaveLemmas
 pub mod MarkLemmas

@@ -1,5 +1,5 @@
 -- What the parts of a callback's end do.
-use Rattle.std.specs.Prelude.{◌≡◌, ◌<◌, ◌≤◌, ℕ, ◌+◌, ◌-◌, ℤ, pos, nat_lt, Bool, true, ◌&&◌, if◌then◌else◌, List, [], ◌∷◌, ◌++◌, map, length, Option, Some, None}
+use Rattle.std.specs.Prelude.{◌≡◌, ◌<◌, ◌≤◌, ℕ, ◌+◌, ◌-◌, ℤ, pos, nat_lt, Bool, true, false, ◌&&◌, if◌then◌else◌, List, [], ◌∷◌, ◌++◌, map, length, Option, Some, None}
 use Rattle.std.specs.List.{slice_set}
 use Rattle.ax_keys.specs.declared.TheConstants.{MOST_FIRINGS}
 use Rattle.ax_text.specs.declared.vocabulary.Answer.{Answer}
@@ -23,16 +23,22 @@ use Rattle.ax_buffer.specs.declared.items.Item.{Item}
 use Rattle.ax_buffer.specs.Buffer.{Buffer, queue_of, total}
 use Rattle.ax_context.specs.declared.id.Id.{Id}
 use Rattle.ax_context.specs.declared.contexts.Context.{Context}
-use Rattle.ax_context.specs.Slots.{Slots, at, Has, OthersStay, live_count}
+use Rattle.ax_context.specs.Slots.{Slots, at, Has, OthersStay, live_count, IsPaid}
 use Rattle.ax_account.specs.declared.part.Waiting.{Waiting}
 use Rattle.ax_account.specs.declared.part.Waiting.TheVariants as item
 use Rattle.ax_account.specs.declared.part.Next.{Next}
 use Rattle.ax_account.specs.declared.part.Next.TheVariants as next
 use Rattle.ax_account.specs.Queues.{has_key}
+use Rattle.ax_account.specs.Parts.{next_of, taken_up, is_mark}
+use Rattle.ax_account.specs.Accounts.{waiting_of, Changes}
 use Rattle.ax_mailbox.specs.declared.mail.Mail.{Mail}
 use Rattle.ax_mailbox.specs.declared.mail.Mail.TheVariants as mail
 use Rattle.ax_time.specs.Epochs.{Book, IsOpen, count_of, with_count}
+use Rattle.ax_time.specs.Timers.{times_of}
 use Rattle.ax_core.specs.declared.record.Record.{Record}
+use Rattle.ax_core.specs.declared.effects.Fired.{Fired}
+use Rattle.ax_core.specs.declared.controller.Controller.{Controller}
+use Rattle.ax_core.specs.Firings.{FiresAt}
 
 -- the record has this machine
 abbrev pub with_machine : Record → Machine → Record
@@ -64,6 +70,17 @@ pub record Resumed (p : Program) (old new : Record) (before : Machine) (slot : �
 abbrev pub ResumedAt : Program → Record → Record → Option Machine → ℕ → Answer → Turn → Type 0
 ResumedAt p old new None slot a t = ⊥
 ResumedAt p old new (Some m) slot a t = Resumed p old new m slot a t
+
+-- the handler of a context has begun, or was given an answer, and nothing else has changed
+pub record HasBegun (p : Program) (old new : Slots Record) (id : Id) (c : Context Record) (t : Turn) : Type 0 where
+  pub payload : Record
+  pub begins : Begins p c.payload payload t
+  pub paid : IsPaid old new id payload
+
+pub record HasResumed (p : Program) (old new : Slots Record) (id : Id) (c : Context Record) (slot : ℕ) (a : Answer) (t : Turn) : Type 0 where
+  pub payload : Record
+  pub resumed : ResumedAt p c.payload payload c.payload.machine slot a t
+  pub paid : IsPaid old new id payload
 
 -- the items of a callback's requests
 abbrev pub item_for : Id → Key → Ask → Item
@@ -133,3 +150,21 @@ abbrev pub with_start : Next → List Mail → List Mail
 with_start next.Free ms = ms
 with_start (next.Row id) ms = ms ++ mail.Start id ∷ []
 with_start (next.Mark e w fired) ms = ms
+
+-- what waits for a key behind the marks that fire nothing
+abbrev pub waits_next : Controller → Key → List Waiting
+waits_next a key = behind_marks (times_of a.timers key) (waiting_of a.accounts key)
+
+-- a key was handed over, and a row that owns it now is to be started; nothing else changes
+pub record HandsOver (old new : Controller) (key : Key) : Type 0 where
+  pub part : Changes old.accounts new.accounts key (taken_up (waits_next old key))
+  pub idle : OthersIdle key old.accounts.idle new.accounts.idle
+  pub epochs : new.epochs ≡ all_left (ended (times_of old.timers key) (waiting_of old.accounts key)) old.epochs
+  pub mails : new.mails.mails ≡ with_start (next_of (waits_next old key)) old.mails.mails
+  pub room : new.mails.room ≡ old.mails.room
+  pub same : new ≡ record old { accounts = new.accounts; epochs = new.epochs; mails = new.mails }
+
+-- and then the mark in front fires, where one is there
+abbrev pub GoesOn : Controller → Controller → Key → Option Fired → Type 0
+GoesOn old new key None = (is_mark (next_of (waits_next old key)) ≡ false) × HandsOver old new key
+GoesOn old new key (Some f) = (mid : Controller) × (HandsOver old mid key × FiresAt mid new key f)

@@ -2,15 +2,16 @@
 ghost use Rattle.std.specs.Prelude.{◌≡◌, ◌≤◌, ◌<◌, ◌+◌, ◌∷◌, [], length, IsSome, IfOk, OnOk};
 ghost use Rattle.ax_text.specs.Run.{time_after, times_after};
 ghost use Rattle.ax_time.specs.Timers.{PutsTimes, times_of};
-ghost use Rattle.ax_context.specs.Slots.{Has};
+ghost use Rattle.ax_context.specs.Slots.{Has, IsLive, live_count};
 ghost use Rattle.ax_buffer.specs.Buffer.{total};
 ghost use Rattle.ax_account.specs.Parts.{next_of, taken_up};
 ghost use Rattle.ax_account.specs.Accounts.{waiting_of, owner_of, Changes};
 ghost use Rattle.ax_execution.specs.Contexts as times;
 ghost use Rattle.ax_core.specs.May.{has_mail};
-ghost use Rattle.ax_core.specs.Callbacks.{Begins, WaitsAt, ResumedAt, item_for, items_for, IsHeld, IsQueued, ending, behind_marks, ended, all_left, AllMayLeave, OthersIdle, row_epochs, with_start};
+ghost use Rattle.ax_core.specs.Callbacks.{Begins, WaitsAt, ResumedAt, HasBegun, HasResumed, item_for, items_for, IsHeld, IsQueued, ending, behind_marks, ended, all_left, AllMayLeave, OthersIdle, row_epochs, with_start, waits_next, HandsOver, GoesOn};
 
 use crate::controller::Controller;
+use crate::effects::Fired;
 use crate::record::Record;
 use ax_account::{Accounting, MOST_FIRINGS, Next};
 use ax_base::{Duplicate, NoMemory};
@@ -30,6 +31,38 @@ impl Controller {
         ensures { result ≡ has_mail self.now }
     {
         self.mails.len() > 0
+    }
+
+    // A key whose owner is given up is handed over, and a row that owns it now is to be started. Tells what comes next.
+    fn hand_on(&mut self, key: &Key) -> Next
+        requires owner { IsSome (owner_of self.old.accounts key.now) }
+        requires left { AllMayLeave (ended (times_of self.old.timers key.now) (waiting_of self.old.accounts key.now)) self.old.epochs }
+        requires mails { length self.old.mails.mails < self.old.mails.room }
+        ensures next { result ≡ next_of (waits_next self.old key.now) }
+        ensures hands { HandsOver self.old self.new key.now }
+    {
+        let next = hand_over(&mut self.accounts, &mut self.epochs, &self.timers, key);
+        post_start(&mut self.mails, next);
+        next
+    }
+
+    // The same, and the mark in front fires, where one is there.
+    fn go_on(&mut self, key: &Key) -> Result<Option<Fired>, NoMemory>
+        requires owner { IsSome (owner_of self.old.accounts key.now) }
+        requires left { AllMayLeave (ended (times_of self.old.timers key.now) (waiting_of self.old.accounts key.now)) self.old.epochs }
+        requires contexts { live_count self.old.contexts < self.old.contexts.limit }
+        requires mails { length self.old.mails.mails < self.old.mails.room }
+        ensures { IfOk result (λ f. GoesOn self.old self.new key.now f) }
+    {
+        match self.hand_on(key) {
+            Next::Mark { .. } => {
+                let named = key.copy(self.alloc)?;
+                let fired = self.fire(named)?;
+                Ok(Some(fired))
+            }
+            Next::Row { .. } => Ok(None),
+            Next::Free => Ok(None),
+        }
     }
 }
 
@@ -58,6 +91,37 @@ fn resume(
     let turn = machine.resume(program, &record.facts, slot, answer)?;
     record.machine = Some(machine);
     Ok(turn)
+}
+
+// The handler of a live context begins.
+#[tactic(auto, using(crate::proofs::GetLemmas::has_begun))]
+fn begin_at(
+    alloc: Global,
+    program: &Program,
+    contexts: &mut Contexts<Record>,
+    id: Id,
+) -> Result<Turn, NoMemory>
+    requires { IsLive contexts.old id }
+    ensures { IfOk result (λ turn. Has contexts.old id (λ c. HasBegun program.now contexts.old contexts.new id c turn)) }
+{
+    let record = contexts.get_mut(id);
+    begin(alloc, program, record)
+}
+
+// The handler of a live context is given an answer.
+#[tactic(auto, using(crate::proofs::GetLemmas::has_resumed, crate::proofs::GetLemmas::is_live, crate::proofs::GetLemmas::waits_there))]
+fn resume_at(
+    program: &Program,
+    contexts: &mut Contexts<Record>,
+    id: Id,
+    slot: u8,
+    answer: Answer,
+) -> Result<Turn, NoMemory>
+    requires { Has contexts.old id (λ c. WaitsAt program.now c.payload.machine slot) }
+    ensures { IfOk result (λ turn. Has contexts.old id (λ c. HasResumed program.now contexts.old contexts.new id c slot answer turn)) }
+{
+    let record = contexts.get_mut(id);
+    resume(program, record, slot, answer)
 }
 
 // Sets or takes off a timer of the key.
