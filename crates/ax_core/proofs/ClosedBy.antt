@@ -273,8 +273,8 @@ few_count a h =
     let o : IsOrderly (rules_of a.settings) h.control = orderly a h.control h.stands in
     let x : count_of a.epochs (current_of a.epochs) ≡ epoch_count_on h.control.epoch h.control = ap (count_of a.epochs) h.stands.stands.epochs.current ∙ h.stands.stands.epochs.counts h.control.epoch (omega arith) (omega arith) in
     let y : epoch_count_on h.control.epoch h.control ≤ in_flight_on h.control = total_most (λ k. control_of_epoch h.control.epoch (h.control.controls k)) (λ k. contexts_on (h.control.controls k)) h.control.keys
-        (λ k. let p : owner_of_epoch h.control.epoch (h.control.controls k).owner ≤ owners (h.control.controls k).owner = owner_most h.control.epoch (h.control.controls k).owner in
-        let q : waiting_of_epoch h.control.epoch (h.control.controls k).waiting ≤ rows_in (h.control.controls k).waiting = rows_most h.control.epoch (h.control.controls k).waiting (o.marks k) in omega arith) in
+    (λ k. let p : owner_of_epoch h.control.epoch (h.control.controls k).owner ≤ owners (h.control.controls k).owner = owner_most h.control.epoch (h.control.controls k).owner in
+    let q : waiting_of_epoch h.control.epoch (h.control.controls k).waiting ≤ rows_in (h.control.controls k).waiting = rows_most h.control.epoch (h.control.controls k).waiting (o.marks k) in omega arith) in
     let z : in_flight_on h.control ≤ a.settings.in_flight = o.limit in
     let l : a.settings.in_flight ≤ 65536 = h.ranges.in_flight in
     omega arith
@@ -329,8 +329,13 @@ module _ (laws : BookLaws) (law : CountsKept) (a : Controller) (w : ℤ) (fits :
     all = with_controls (λ k. mark_on m.epoch w most_firings (m.controls k)) m
 
     there : Midway a next all
-    there = subst (Midway a next) (all_have_it laws a w m o.rise two.done (λ j x. let f = free_then j (two.kept j x) in (f.0, (f.1,
-        by_cases (is_due w (m.controls j).times) (λ y. absurd (two.all j x (due_now j y))) (λ y. y))))) two.stands
+    there = subst (Midway a next) (all_have_it laws a w m o.rise two.done (λ j x. let f = free_then j (two.kept j x) in (
+      f.0,
+      (
+        f.1,
+        by_cases (is_due w (m.controls j).times) (λ y. absurd (two.all j x (due_now j y))) (λ y. y),
+      ),
+    ))) two.stands
 
     allowed : AllowedOn (rules_of a.settings) (Close (ByWatermark w)) m
     allowed = (h.settled, is_open a m h.stands.epochs may, subst (λ (v : ℤ). int_lt v w ≡ true) h.stands.wm (lt_test a.wm w later))

@@ -70,18 +70,18 @@ module _ (a b : Controller) (key : Key) (f : Fired) (h : FiresAt a b key f) (non
       let was : started_as id a.mails.mails ≡ one_if (is_to_start a id (at a.contexts id)) = flow.starts id in
       by_cases (same_id h.id id)
       (λ x.
-        let it : h.id ≡ id = same_is h.id id x in
-        let here : one_if (is_to_start fired_one id (at b.contexts id)) ≡ one_if (same_id h.id id) =
-        subst (λ (i : Id). one_if (is_to_start fired_one i (at b.contexts i)) ≡ one_if (same_id h.id i)) it
-        (ap (λ (o : Option (Held Record)). one_if (is_to_start fired_one h.id o)) h.made ∙ ap (λ (o : Option Id). one_if (is_owner h.id o)) owner_now) in
-        let gone : one_if (is_to_start a id (at a.contexts id)) ≡ 0 =
-        subst (λ (i : Id). one_if (is_to_start a i (at a.contexts i)) ≡ 0) it (ap (λ (o : Option (Held Record)). one_if (is_to_start a h.id o)) h.free) in
-        omega (arith, more, was, here, gone))
+      let it : h.id ≡ id = same_is h.id id x in
+      let here : one_if (is_to_start fired_one id (at b.contexts id)) ≡ one_if (same_id h.id id) =
+      subst (λ (i : Id). one_if (is_to_start fired_one i (at b.contexts i)) ≡ one_if (same_id h.id i)) it
+      (ap (λ (o : Option (Held Record)). one_if (is_to_start fired_one h.id o)) h.made ∙ ap (λ (o : Option Id). one_if (is_owner h.id o)) owner_now) in
+      let gone : one_if (is_to_start a id (at a.contexts id)) ≡ 0 =
+      subst (λ (i : Id). one_if (is_to_start a i (at a.contexts i)) ≡ 0) it (ap (λ (o : Option (Held Record)). one_if (is_to_start a h.id o)) h.free) in
+      omega (arith, more, was, here, gone))
       (λ x.
-        let there : one_if (is_to_start fired_one id (at b.contexts id)) ≡ one_if (is_to_start a id (at a.contexts id)) =
-        ap (λ (o : Option (Held Record)). one_if (is_to_start fired_one id o)) (h.others id (other_ids h.id id x)) ∙ ap one_if (start_as id x (at a.contexts id)) in
-        let none_more : one_if (same_id h.id id) ≡ 0 = ap one_if x in
-        omega (arith, more, was, there, none_more))
+      let there : one_if (is_to_start fired_one id (at b.contexts id)) ≡ one_if (is_to_start a id (at a.contexts id)) =
+      ap (λ (o : Option (Held Record)). one_if (is_to_start fired_one id o)) (h.others id (other_ids h.id id x)) ∙ ap one_if (start_as id x (at a.contexts id)) in
+      let none_more : one_if (same_id h.id id) ≡ 0 = ap one_if x in
+      omega (arith, more, was, there, none_more))
 
   begun_as : (id : Id) (o : Option (Held Record)) → OwnsOnceBegun a id o → OwnsOnceBegun fired_one id o
   begun_as id None x = tt

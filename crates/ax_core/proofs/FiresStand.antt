@@ -172,6 +172,7 @@ module _ (a b : Controller) (key : Key) (f : Fired) (h : FiresAt a b key f) (non
       time_in : Option ℤ → ℤ
       time_in None = least.time
       time_in (Some t) = t
+
       same_time : least.time ≡ f.time
       same_time = ap time_in (sym (ap least_time ((x.keys key).times ∙ least.times)) ∙ h.least)
 

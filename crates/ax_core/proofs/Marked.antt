@@ -80,12 +80,12 @@ module _ (laws : BookLaws) (a : Controller) (w : ℤ) (m : MachineControl) (rise
           ≡ cond (bytes_eq k j || done j) (mark_on m.epoch w most_firings (m.controls j)) (m.controls j)
       each j = by_cases (bytes_eq k j)
           (λ y. subst (λ (i : Key). control_at (marked_at done w m).controls k (mark_on m.epoch w most_firings ((marked_at done w m).controls k)) i
-            ≡ cond (bytes_eq k i || done i) (mark_on m.epoch w most_firings (m.controls i)) (m.controls i)) (key_is k j y)
-            (own_control (marked_at done w m).controls k (mark_on m.epoch w most_firings ((marked_at done w m).controls k))
-              ∙ ap (mark_on m.epoch w most_firings) (lacks_it done k x)
-              ∙ sym (ap (λ (b : Bool). cond (b || done k) (mark_on m.epoch w most_firings (m.controls k)) (m.controls k)) (same_key k))))
+          ≡ cond (bytes_eq k i || done i) (mark_on m.epoch w most_firings (m.controls i)) (m.controls i)) (key_is k j y)
+          (own_control (marked_at done w m).controls k (mark_on m.epoch w most_firings ((marked_at done w m).controls k))
+          ∙ ap (mark_on m.epoch w most_firings) (lacks_it done k x)
+          ∙ sym (ap (λ (b : Bool). cond (b || done k) (mark_on m.epoch w most_firings (m.controls k)) (m.controls k)) (same_key k))))
           (λ y. other_control (marked_at done w m).controls k (mark_on m.epoch w most_firings ((marked_at done w m).controls k)) j y
-            ∙ sym (ap (λ (b : Bool). cond (b || done j) (mark_on m.epoch w most_firings (m.controls j)) (m.controls j)) y))
+          ∙ sym (ap (λ (b : Bool). cond (b || done j) (mark_on m.epoch w most_firings (m.controls j)) (m.controls j)) y))
 
   step : (done : Key → Bool) (k : Key) (s t : Books) → done k ≡ false → list_any (bytes_eq k) m.keys ≡ true → Stays w (m.controls k)
       → Midway a s (marked_at done w m) → Marks w k s t → Midway a t (marked_at (λ j. bytes_eq k j || done j) w m)
@@ -135,14 +135,14 @@ module _ (laws : BookLaws) (a : Controller) (w : ℤ) (m : MachineControl) (rise
   all_marked [] done s t sorted new known stays only h marks = none_left done s t only h marks
   all_marked (k ∷ ks) done s t sorted new known stays only h marks =
       first_too k ks done t (all_marked ks (λ j. bytes_eq k j || done j) marks.0 t sorted.1
-        (λ j x. both_false (bytes_eq k j) (done j)
-          (by_cases (bytes_eq k j) (λ y. absurd (apart_above k ks sorted.0 (subst (λ (i : Key). list_any (bytes_eq i) ks ≡ true) (sym (key_is k j y)) x))) (λ y. y))
-          (new j (has_tail j k ks x)))
-        (λ j x. known j (has_tail j k ks x))
-        (λ j x. stays j (has_tail j k ks x))
-        (only_more done k only (stays k (has_head k k ks refl)))
-        (step done k s marks.0 (new k (has_head k k ks refl)) (known k (has_head k k ks refl)) (stays k (has_head k k ks refl)) h marks.1)
-        marks.2)
+      (λ j x. both_false (bytes_eq k j) (done j)
+      (by_cases (bytes_eq k j) (λ y. absurd (apart_above k ks sorted.0 (subst (λ (i : Key). list_any (bytes_eq i) ks ≡ true) (sym (key_is k j y)) x))) (λ y. y))
+      (new j (has_tail j k ks x)))
+      (λ j x. known j (has_tail j k ks x))
+      (λ j x. stays j (has_tail j k ks x))
+      (only_more done k only (stays k (has_head k k ks refl)))
+      (step done k s marks.0 (new k (has_head k k ks refl)) (known k (has_head k k ks refl)) (stays k (has_head k k ks refl)) h marks.1)
+      marks.2)
 
   -- at each of these keys that is free
   pub free_marked : (ks : List Key) (done : Key → Bool) (s t : Books) → ((j : Key) → done j ≡ false → ((m.controls j).owner ≡ None) × ((m.controls j).waiting ≡ []))
@@ -151,12 +151,12 @@ module _ (laws : BookLaws) (a : Controller) (w : ℤ) (m : MachineControl) (rise
   free_marked [] done s t free known due only h marks = none_left done s t only h marks
   free_marked (k ∷ ks) done s t free known due only h marks = of (is_free (part_of s.accounts k)) refl marks.1
       (λ (next : Midway a marks.0 (marked_at (λ j. bytes_eq k j || done j) w m)). free_marked ks (λ j. bytes_eq k j || done j) marks.0 t
-        (λ j y. free j (neither (bytes_eq k j) (done j) y).1)
-        (λ j y. known j (has_tail j k ks y))
-        (λ j y. due j (has_tail j k ks y))
-        (only_more done k only (λ x y. due k (has_head k k ks refl)))
-        next
-        marks.2)
+      (λ j y. free j (neither (bytes_eq k j) (done j) y).1)
+      (λ j y. known j (has_tail j k ks y))
+      (λ j y. due j (has_tail j k ks y))
+      (only_more done k only (λ x y. due k (has_head k k ks refl)))
+      next
+      marks.2)
       (λ (rest : MarksAll is_free w ks s t). free_marked ks done s t free (λ j y. known j (has_tail j k ks y)) (λ j y. due j (has_tail j k ks y)) only h rest)
     where
       stays : Stays w (m.controls k)
@@ -165,14 +165,14 @@ module _ (laws : BookLaws) (a : Controller) (w : ℤ) (m : MachineControl) (rise
       new : is_free (part_of s.accounts k) ≡ true → done k ≡ false
       new e = by_cases (done k)
           (λ x. let f = free_control a.program a.mails.mails a.contexts k (part_of s.accounts k) (times_of a.timers k) ((marked_at done w m).controls k) (h.keys k) e in
-            absurd (not_nil (m.controls k).waiting (Mark m.epoch w most_firings)
-              (sym (ap (λ (c : KeyControl). c.waiting) (has_it done k x ∙ marked_is m.epoch w most_firings (m.controls k) (only k x))) ∙ f.1)))
+          absurd (not_nil (m.controls k).waiting (Mark m.epoch w most_firings)
+          (sym (ap (λ (c : KeyControl). c.waiting) (has_it done k x ∙ marked_is m.epoch w most_firings (m.controls k) (only k x))) ∙ f.1)))
           (λ x. x)
 
       old : is_free (part_of s.accounts k) ≡ false → done k ≡ true
       old e = by_cases (done k) (λ x. x)
           (λ x. true_false (sym (free_part a.program a.mails.mails a.contexts k (part_of s.accounts k) (times_of a.timers k) (m.controls k)
-            (subst (λ (c : KeyControl). PartStands a.program a.mails.mails a.contexts k (part_of s.accounts k) (times_of a.timers k) c) (lacks_it done k x) (h.keys k)) (free k x).0 (free k x).1) ∙ e))
+          (subst (λ (c : KeyControl). PartStands a.program a.mails.mails a.contexts k (part_of s.accounts k) (times_of a.timers k) c) (lacks_it done k x) (h.keys k)) (free k x).0 (free k x).1) ∙ e))
 
       of : (b : Bool) → is_free (part_of s.accounts k) ≡ b → MarksIf b w k s marks.0
           → (Midway a marks.0 (marked_at (λ j. bytes_eq k j || done j) w m) → Through ks (λ j. bytes_eq k j || done j) t) → (MarksAll is_free w ks s t → Through ks done t) → Through (k ∷ ks) done t

@@ -163,14 +163,14 @@ module _ (laws : BookLaws) (a : Controller) (w : ℤ) (m : MachineControl) (rise
   own_key : PartStands a.program a.mails.mails a.contexts k (part_of t.accounts k) (times_of a.timers k) (control_at m.controls k (mark_on m.epoch w most_firings (m.controls k)) k)
   own_key =
       subst (λ (c : KeyControl). PartStands a.program a.mails.mails a.contexts k (part_of t.accounts k) (times_of a.timers k) c) (sym (own_control m.controls k (mark_on m.epoch w most_firings (m.controls k)) ∙ same))
-        (subst (λ (z : Part). PartStands a.program a.mails.mails a.contexts k z (times_of a.timers k) (keyed (m.controls k).owner ((m.controls k).waiting ++ Mark m.epoch w most_firings ∷ []) (m.controls k).times)) (sym step.part.own)
-          (part_marked a.program a.mails.mails a.contexts k (part_of s.accounts k) (times_of a.timers k) (m.controls k) (current_of s.epochs) m.epoch w (h.keys k) h.epochs.current))
+      (subst (λ (z : Part). PartStands a.program a.mails.mails a.contexts k z (times_of a.timers k) (keyed (m.controls k).owner ((m.controls k).waiting ++ Mark m.epoch w most_firings ∷ []) (m.controls k).times)) (sym step.part.own)
+      (part_marked a.program a.mails.mails a.contexts k (part_of s.accounts k) (times_of a.timers k) (m.controls k) (current_of s.epochs) m.epoch w (h.keys k) h.epochs.current))
 
   keys : (j : Key) → PartStands a.program a.mails.mails a.contexts j (part_of t.accounts j) (times_of a.timers j) (control_at m.controls k (mark_on m.epoch w most_firings (m.controls k)) j)
   keys j = by_cases (bytes_eq k j)
       (λ x. subst (λ (i : Key). PartStands a.program a.mails.mails a.contexts i (part_of t.accounts i) (times_of a.timers i) (control_at m.controls k (mark_on m.epoch w most_firings (m.controls k)) i)) (key_is k j x) own_key)
       (λ x. subst (λ (c : KeyControl). PartStands a.program a.mails.mails a.contexts j (part_of t.accounts j) (times_of a.timers j) c) (sym (other_control m.controls k (mark_on m.epoch w most_firings (m.controls k)) j x))
-        (subst (λ (z : Part). PartStands a.program a.mails.mails a.contexts j z (times_of a.timers j) (m.controls j)) (sym (step.part.others j (λ e. true_false (sym (ap (bytes_eq k) e ∙ same_key k) ∙ x)))) (h.keys j)))
+      (subst (λ (z : Part). PartStands a.program a.mails.mails a.contexts j z (times_of a.timers j) (m.controls j)) (sym (step.part.others j (λ e. true_false (sym (ap (bytes_eq k) e ∙ same_key k) ∙ x)))) (h.keys j)))
 
   more : (j : Key) → has_key s.accounts.idle j ≡ true → has_key t.accounts.idle j ≡ true
   more j y = subst (λ (xs : List Key). has_key xs j ≡ true) (sym step.idle) (of (is_free (part_of s.accounts k)))
@@ -244,7 +244,7 @@ module _ (laws : BookLaws) (a : Controller) (w : ℤ) (m : MachineControl) (rise
       let x : count_of t.epochs (wrapped u) ≡ count_of s.epochs (wrapped u) =
       ap (λ (z : Book). count_of z (wrapped u)) step.epochs
       ∙ laws.others s.epochs (current_of s.epochs) (wrapped u) (count_of s.epochs (current_of s.epochs) + 1) h.fits (small (s.epochs.oldest + length s.epochs.closed)) (small u)
-        (λ e. apart u m.epoch (length m.unsent) b d few n (sym h.epochs.current ∙ e)) in
+      (λ e. apart u m.epoch (length m.unsent) b d few n (sym h.epochs.current ∙ e)) in
       let y : count_of s.epochs (wrapped u) ≡ epoch_count_on u m = h.epochs.counts u b d in
       let z : one_at u m.epoch ≡ 0 = none_there u m.epoch n in
       let v : epoch_count_on u (control_goes_on k m.must (mark_on m.epoch w most_firings (m.controls k)) m) ≡ epoch_count_on u m + one_at u m.epoch = grows u in

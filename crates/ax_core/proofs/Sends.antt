@@ -90,9 +90,9 @@ owner_above e m s (Some c) is o f h w = of c.job.handler refl h
 pub none_finished : (r : Rules) (m : MachineControl) → IsOrderly r m → (e : ℕ) → e + length m.unsent ≡ m.epoch → epoch_count_on e m ≡ 0 → IsFinishedOn e m
 none_finished r m o e s h k = by_cases (list_any (bytes_eq k) m.keys)
     (λ x.
-      let y : owner_of_epoch e (m.controls k).owner + waiting_of_epoch e (m.controls k).waiting ≤ epoch_count_on e m = in_total m.keys (λ j. control_of_epoch e (m.controls j)) k x in
-      let waits : WaitLater e (m.controls k).waiting = waiting_above e m s (m.controls k).waiting (o.waiting k) (omega arith) in
-      (owner_above e m s (m.controls k).owner (m.controls k).waiting (o.owners k) (o.firings k) (omega arith) waits, waits))
+    let y : owner_of_epoch e (m.controls k).owner + waiting_of_epoch e (m.controls k).waiting ≤ epoch_count_on e m = in_total m.keys (λ j. control_of_epoch e (m.controls j)) k x in
+    let waits : WaitLater e (m.controls k).waiting = waiting_above e m s (m.controls k).waiting (o.waiting k) (omega arith) in
+    (owner_above e m s (m.controls k).owner (m.controls k).waiting (o.owners k) (o.firings k) (omega arith) waits, waits))
     (λ x. (subst (OwnedLater e) (sym (o.absent k x).owner) tt, subst (WaitLater e) (sym (o.absent k x).waiting) tt))
 
 -- a barrier is unsent only as the last

@@ -113,8 +113,11 @@ module _ (law : CountsStay) (a : Controller) (k : Marker) (fits : Fits64 a.epoch
       marker_here = one.marker_is ∙ pair.0
 
       may : AllowedOn (rules_of a.settings) Send m
-      may = (h.settled, subst (λ (xs : List Closed). FirstIsFinishedOn xs m) (sym unsent)
-          (zero_finished a.epochs a.barrier (rules_of a.settings) m fits stand o one.epoch one.rest d ds one.closed unsent one.zero_left))
+      may = (
+        h.settled,
+        subst (λ (xs : List Closed). FirstIsFinishedOn xs m) (sym unsent)
+            (zero_finished a.epochs a.barrier (rules_of a.settings) m fits stand o one.epoch one.rest d ds one.closed unsent one.zero_left),
+      )
 
       gone : taken a.epochs ≡ record { oldest = (a.epochs.oldest + 1) % 2 ^ 64; closed = one.rest; count = a.epochs.count }
       gone = cond-true (is_finished a.epochs.closed 0) (record { oldest = (a.epochs.oldest + 1) % 2 ^ 64; closed = drop 1 a.epochs.closed; count = a.epochs.count }) a.epochs one.finished

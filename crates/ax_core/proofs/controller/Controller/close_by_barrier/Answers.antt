@@ -15,5 +15,5 @@ returns-clause-sound c = subst (λ (book : Book). IsSound (with_epochs c.args.se
 pub returns-clause-event : goal.returns-clause-event
 returns-clause-event c = λ m h.
     subst (λ (z : ℤ). Makes c.args.self.now (with_epochs c.args.self.now true c.close.new.self) (Close (ByBarrier z)) m) (to_z-of_z w64 c.args.id c.ranges.id)
-      (subst (λ (book : Book). Makes c.args.self.now (with_epochs c.args.self.now true book) (Close (ByBarrier (to_z w64 (of_z w64 c.args.id)))) m) (sym c.in_ok-close.ensures.ok)
-        (barrier_closes c.counts_stay_law.ensures.closed c.args.self.now (to_z w64 (of_z w64 c.args.id)) c.sizes_law.ensures (subst Fits64 c.in_ok-close.ensures.ok c.sizes_law-2.ensures) c.requires.may m h))
+    (subst (λ (book : Book). Makes c.args.self.now (with_epochs c.args.self.now true book) (Close (ByBarrier (to_z w64 (of_z w64 c.args.id)))) m) (sym c.in_ok-close.ensures.ok)
+    (barrier_closes c.counts_stay_law.ensures.closed c.args.self.now (to_z w64 (of_z w64 c.args.id)) c.sizes_law.ensures (subst Fits64 c.in_ok-close.ensures.ok c.sizes_law-2.ensures) c.requires.may m h))

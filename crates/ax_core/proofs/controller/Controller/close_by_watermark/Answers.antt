@@ -32,22 +32,22 @@ mark_free-requires c =
 pub returns-clause-sound : goal.returns-clause-sound
 returns-clause-sound c =
     subst (λ (book : Book). IsSound (with_mark c.args.self.now (to_z w64 (of_z w64 c.args.time)) c.mark_free.new.accounts book)) (sym c.in_ok-close.ensures.ok)
-      (mark_sound (record { own = c.one_epoch_law.ensures.own; others = c.one_epoch_law.ensures.others; actions = c.one_epoch_law.ensures.actions; pending = c.one_epoch_law.ensures.pending })
-      c.counts_stay_law.ensures.closed c.args.self.now (to_z w64 (of_z w64 c.args.time)) c.sizes_law.ensures c.requires.may (subst (λ (z : ℤ). c.args.self.now.wm <ℤ z) (sym (to_z-of_z w64 c.args.time c.ranges.time)) c.requires.next)
-      c.in_ok-busy.ensures.sound c.as_slice-4.result.now
-      (subst (λ (ks : List Key). (q : Key) → Contains ks q ↔ HasDue (to_z w64 (of_z w64 c.args.time)) (times_of c.args.self.now.timers q)) (sym c.as_slice-4.ensures) c.in_ok-due.ensures.due)
-      (books c.mark_all.new.accounts c.mark_all.new.epochs) (books c.mark_free.new.accounts c.mark_free.new.epochs)
-      (subst (λ (ks : List Key). MarksAll every (to_z w64 (of_z w64 c.args.time)) ks (books c.args.self.now.accounts c.args.self.now.epochs) (books c.mark_all.new.accounts c.mark_all.new.epochs)) (c.as_slice-3.ensures ∙ c.in_ok-busy.ensures.keys) c.in_ok-mark_all.ensures.marks)
-      c.in_ok-mark_free.ensures.marks (subst Fits64 c.in_ok-close.ensures.ok c.sizes_law-2.ensures) c.requires.sound)
+    (mark_sound (record { own = c.one_epoch_law.ensures.own; others = c.one_epoch_law.ensures.others; actions = c.one_epoch_law.ensures.actions; pending = c.one_epoch_law.ensures.pending })
+    c.counts_stay_law.ensures.closed c.args.self.now (to_z w64 (of_z w64 c.args.time)) c.sizes_law.ensures c.requires.may (subst (λ (z : ℤ). c.args.self.now.wm <ℤ z) (sym (to_z-of_z w64 c.args.time c.ranges.time)) c.requires.next)
+    c.in_ok-busy.ensures.sound c.as_slice-4.result.now
+    (subst (λ (ks : List Key). (q : Key) → Contains ks q ↔ HasDue (to_z w64 (of_z w64 c.args.time)) (times_of c.args.self.now.timers q)) (sym c.as_slice-4.ensures) c.in_ok-due.ensures.due)
+    (books c.mark_all.new.accounts c.mark_all.new.epochs) (books c.mark_free.new.accounts c.mark_free.new.epochs)
+    (subst (λ (ks : List Key). MarksAll every (to_z w64 (of_z w64 c.args.time)) ks (books c.args.self.now.accounts c.args.self.now.epochs) (books c.mark_all.new.accounts c.mark_all.new.epochs)) (c.as_slice-3.ensures ∙ c.in_ok-busy.ensures.keys) c.in_ok-mark_all.ensures.marks)
+    c.in_ok-mark_free.ensures.marks (subst Fits64 c.in_ok-close.ensures.ok c.sizes_law-2.ensures) c.requires.sound)
 
 pub returns-clause-event : goal.returns-clause-event
 returns-clause-event c = λ m h.
     subst (λ (z : ℤ). Makes c.args.self.now (with_mark c.args.self.now (to_z w64 (of_z w64 c.args.time)) c.mark_free.new.accounts c.close.new.self) (Close (ByWatermark z)) m) (to_z-of_z w64 c.args.time c.ranges.time)
-      (subst (λ (book : Book). Makes c.args.self.now (with_mark c.args.self.now (to_z w64 (of_z w64 c.args.time)) c.mark_free.new.accounts book) (Close (ByWatermark (to_z w64 (of_z w64 c.args.time)))) m) (sym c.in_ok-close.ensures.ok)
-        (mark_closes (record { own = c.one_epoch_law.ensures.own; others = c.one_epoch_law.ensures.others; actions = c.one_epoch_law.ensures.actions; pending = c.one_epoch_law.ensures.pending })
-      c.counts_stay_law.ensures.closed c.args.self.now (to_z w64 (of_z w64 c.args.time)) c.sizes_law.ensures c.requires.may (subst (λ (z : ℤ). c.args.self.now.wm <ℤ z) (sym (to_z-of_z w64 c.args.time c.ranges.time)) c.requires.next)
-      c.in_ok-busy.ensures.sound c.as_slice-4.result.now
-      (subst (λ (ks : List Key). (q : Key) → Contains ks q ↔ HasDue (to_z w64 (of_z w64 c.args.time)) (times_of c.args.self.now.timers q)) (sym c.as_slice-4.ensures) c.in_ok-due.ensures.due)
-      (books c.mark_all.new.accounts c.mark_all.new.epochs) (books c.mark_free.new.accounts c.mark_free.new.epochs)
-      (subst (λ (ks : List Key). MarksAll every (to_z w64 (of_z w64 c.args.time)) ks (books c.args.self.now.accounts c.args.self.now.epochs) (books c.mark_all.new.accounts c.mark_all.new.epochs)) (c.as_slice-3.ensures ∙ c.in_ok-busy.ensures.keys) c.in_ok-mark_all.ensures.marks)
-      c.in_ok-mark_free.ensures.marks (subst Fits64 c.in_ok-close.ensures.ok c.sizes_law-2.ensures) m h))
+    (subst (λ (book : Book). Makes c.args.self.now (with_mark c.args.self.now (to_z w64 (of_z w64 c.args.time)) c.mark_free.new.accounts book) (Close (ByWatermark (to_z w64 (of_z w64 c.args.time)))) m) (sym c.in_ok-close.ensures.ok)
+    (mark_closes (record { own = c.one_epoch_law.ensures.own; others = c.one_epoch_law.ensures.others; actions = c.one_epoch_law.ensures.actions; pending = c.one_epoch_law.ensures.pending })
+    c.counts_stay_law.ensures.closed c.args.self.now (to_z w64 (of_z w64 c.args.time)) c.sizes_law.ensures c.requires.may (subst (λ (z : ℤ). c.args.self.now.wm <ℤ z) (sym (to_z-of_z w64 c.args.time c.ranges.time)) c.requires.next)
+    c.in_ok-busy.ensures.sound c.as_slice-4.result.now
+    (subst (λ (ks : List Key). (q : Key) → Contains ks q ↔ HasDue (to_z w64 (of_z w64 c.args.time)) (times_of c.args.self.now.timers q)) (sym c.as_slice-4.ensures) c.in_ok-due.ensures.due)
+    (books c.mark_all.new.accounts c.mark_all.new.epochs) (books c.mark_free.new.accounts c.mark_free.new.epochs)
+    (subst (λ (ks : List Key). MarksAll every (to_z w64 (of_z w64 c.args.time)) ks (books c.args.self.now.accounts c.args.self.now.epochs) (books c.mark_all.new.accounts c.mark_all.new.epochs)) (c.as_slice-3.ensures ∙ c.in_ok-busy.ensures.keys) c.in_ok-mark_all.ensures.marks)
+    c.in_ok-mark_free.ensures.marks (subst Fits64 c.in_ok-close.ensures.ok c.sizes_law-2.ensures) m h))
