@@ -1,15 +1,13 @@
 -- The requests of a callback, one after the other.
-use Rattle.std.proofs.Common.{◌≡◌, ◌≢◌, ℕ, ◌+◌, ◌≤◌, ◌<◌, List, [], ◌∷◌, ◌++◌, map, length, get_or, set, Option, Some, None, IsSomeAnd, refl, sym, ap, ◌∙◌, subst, arith, append_assoc, length-append, zero, suc}
+use Rattle.std.proofs.Common.{◌≡◌, ℕ, ◌+◌, ◌≤◌, ◌<◌, List, [], ◌∷◌, ◌++◌, length, get_or, set, Option, Some, None, IsSomeAnd, refl, sym, ap, ◌∙◌, subst, arith, append_assoc, length-append, suc}
 use Rattle.std.proofs.lemmas.List.{append-nil, set-set, set-get_or, length-set, get_or-set_same}
-use Rattle.ax_future.specs.declared.callback.Ask.{Ask}
-use Rattle.ax_machine.specs.Entries.{Key}
 use Rattle.ax_buffer.specs.declared.items.Item.{Item}
 use Rattle.ax_buffer.specs.Buffer.{Buffer, queue_of, total}
 use Rattle.ax_context.specs.declared.id.Id.{Id}
 use Rattle.ax_context.specs.declared.contexts.Context.{Context}
-use Rattle.ax_context.specs.Slots.{Slots, at, Has, OthersStay}
+use Rattle.ax_context.specs.Slots.{Slots, at, Has}
 use Rattle.ax_core.specs.declared.record.Record.{Record}
-use Rattle.ax_core.specs.Callbacks.{item_for, items_for, IsHeld, IsQueued}
+use Rattle.ax_core.specs.Callbacks.{IsHeld, IsQueued}
 
 -- a reference more, and then so many
 held_then : (o o' o'' : Option (Context Record)) (n : ℕ) → IsSomeAnd o (λ c. o' ≡ Some (record c { count = c.count + 1 })) → IsSomeAnd o' (λ c. o'' ≡ Some (record c { count = c.count + n }))

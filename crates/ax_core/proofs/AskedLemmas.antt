@@ -1,12 +1,12 @@
 -- How often the requests of a callback stand in the queues.
-use Rattle.std.proofs.Common.{◌≡◌, ◌≢◌, ℕ, zero, suc, ◌+◌, ◌<◌, nat_eq, Bool, true, false, cond, ◌&&◌, ◌||◌, List, [], ◌∷◌, ◌++◌, map, length, get_or, set, refl, sym, ap, ap₂, ◌∙◌, subst, arith, eqb-true}
+use Rattle.std.proofs.Common.{◌≡◌, ℕ, ◌+◌, ◌<◌, nat_eq, Bool, true, false, ◌&&◌, ◌||◌, List, [], ◌∷◌, ◌++◌, map, length, set, refl, sym, ap, ap₂, ◌∙◌, subst, arith, eqb-true}
 use Rattle.std.specs.List.{AllByRecursion}
 use Rattle.std.proofs.lemmas.Bool.{eq-eqb, cond-true, cond-false}
 use Rattle.ax_text.specs.Prints.{has}
 use Rattle.ax_text.specs.Controls.{Ask' as Asked, replaced}
 use Rattle.ax_text.specs.Underway.{SlotsRise, Differ}
 use Rattle.ax_future.specs.declared.callback.Ask.{Ask}
-use Rattle.ax_future.specs.Talks.{ask_in, asks_in}
+use Rattle.ax_future.specs.Talks.{asks_in}
 use Rattle.ax_machine.specs.Entries.{Key}
 use Rattle.ax_buffer.specs.declared.items.Item.{Item}
 use Rattle.ax_buffer.specs.Buffer.{Buffer, queue_of, total}
@@ -14,8 +14,8 @@ use Rattle.ax_buffer.proofs.ListLemmas.{total-set}
 use Rattle.ax_context.specs.declared.id.Id.{Id}
 use Rattle.ax_execution.proofs.Upto.{by_cases}
 use Rattle.ax_core.specs.Contexts.{same_id}
-use Rattle.ax_core.specs.Flow.{one_if, names_request, queued_as, waits_for}
-use Rattle.ax_core.specs.Callbacks.{item_for, items_for, IsQueued}
+use Rattle.ax_core.specs.Flow.{one_if, queued_as, waits_for}
+use Rattle.ax_core.specs.Callbacks.{items_for, IsQueued}
 
 -- a sum over all queues grows by that of what went into one
 pub queues_asked : (f : List Item → ℕ) → ((xs ys : List Item) → f (xs ++ ys) ≡ f xs + f ys) → (a b : Buffer) (shard : ℕ) (is : List Item) → shard < length a.queues → IsQueued a b shard is

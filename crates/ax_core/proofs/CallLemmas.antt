@@ -1,5 +1,5 @@
 -- A callback of a context: what its machine stands for behind it, and whether its context is given up.
-use Rattle.std.proofs.Common.{◌≡◌, ◌≢◌, ℕ, zero, suc, ◌+◌, ◌<◌, nat_eq, ℤ, pos, Bool, true, false, cond, ◌&&◌, List, [], ◌∷◌, ◌++◌, map, length, length-append, Option, Some, None, refl, sym, ap, ◌∙◌, subst, arith, eqb-true}
+use Rattle.std.proofs.Common.{◌≡◌, ℕ, ◌+◌, ◌<◌, nat_eq, pos, Bool, true, false, ◌&&◌, List, [], ◌∷◌, ◌++◌, map, length, length-append, Option, Some, None, refl, sym, ap, ◌∙◌, subst, arith, eqb-true}
 use Rattle.std.proofs.lemmas.List.{length-map}
 use Rattle.std.proofs.lemmas.Bool.{cond-true, cond-false}
 use Rattle.ax_text.specs.declared.vocabulary.Answer.{Answer}
@@ -23,14 +23,13 @@ use Rattle.ax_context.specs.declared.id.Id.{Id}
 use Rattle.ax_context.specs.declared.contexts.Context.{Context as Held}
 use Rattle.ax_mailbox.specs.declared.mail.Mail.{Mail}
 use Rattle.ax_mailbox.specs.declared.mail.Mail.TheVariants as mail
-use Rattle.ax_execution.specs.Contexts.{Running, Begun, Unbegun, Context}
+use Rattle.ax_execution.specs.Contexts.{Running, Begun, Context}
 use Rattle.ax_execution.specs.Turns.{begins, gives, staged}
 use Rattle.ax_execution.specs.ControlTurns.{paused}
-use Rattle.ax_execution.specs.Counts.{references}
 use Rattle.ax_execution.proofs.Upto.{by_cases}
 use Rattle.ax_core.specs.declared.record.Record.{Record}
 use Rattle.ax_core.specs.Contexts.{same_id, answer_if, answer_in, IsRunning, StageStands, IsJob, IsContext}
-use Rattle.ax_core.specs.Flow.{one_if, answers_as, answered_as}
+use Rattle.ax_core.specs.Flow.{one_if, answered_as}
 use Rattle.ax_core.specs.Callbacks.{with_machine, Begins, Resumed}
 
 -- what the code's callback left is the turn of the control

@@ -1,5 +1,5 @@
 -- The controller behind a callback: what stands for the control, and the flow of the requests where a handler has begun.
-use Rattle.std.proofs.Common.{◌≡◌, ◌≢◌, ℕ, zero, suc, ◌+◌, ◌<◌, nat_eq, ℤ, Bool, true, false, cond, ◌&&◌, List, [], ◌∷◌, ◌++◌, map, length, length-append, Option, Some, None, refl, sym, ap, ap₂, subst, ◌∙◌, arith}
+use Rattle.std.proofs.Common.{◌≡◌, ℕ, ◌+◌, ◌<◌, nat_eq, ℤ, Bool, true, false, cond, ◌&&◌, List, [], ◌∷◌, map, length, length-append, Option, Some, None, refl, sym, ap, ap₂, subst, ◌∙◌, arith}
 use Rattle.ax_text.specs.declared.vocabulary.Answer.{Answer}
 use Rattle.ax_text.specs.Controls.{Ask' as Asked, replaced}
 use Rattle.ax_text.specs.Functions.{upd}

@@ -1,6 +1,5 @@
 -- What stands for a key stays where its contexts, and the answers to them, stay.
-use Rattle.std.proofs.Common.{◌≡◌, ◌≢◌, ℕ, ℤ, List, [], ◌∷◌, ◌++◌, Bool, true, false, ◌&&◌, Option, Some, None, refl, sym, ap, ◌∙◌, subst, nat_eq}
-use Rattle.ax_text.specs.declared.vocabulary.Answer.{Answer}
+use Rattle.std.proofs.Common.{◌≡◌, ◌≢◌, ℕ, ℤ, List, [], ◌∷◌, ◌++◌, ◌&&◌, Option, Some, None, refl, sym, ap, ◌∙◌, subst, nat_eq}
 use Rattle.ax_lang.specs.declared.program.Program.{Program}
 use Rattle.ax_future.specs.declared.machine.Machine.{Machine as CodeMachine}
 use Rattle.ax_context.specs.declared.id.Id.{Id}
@@ -15,8 +14,8 @@ use Rattle.ax_machine.specs.Entries.{Key}
 use Rattle.ax_execution.specs.Contexts.{Stage, Unbegun, Begun, Context, row_context, Waiting, Row, Mark}
 use Rattle.ax_execution.specs.KeyControls.{KeyControl}
 use Rattle.ax_core.specs.declared.record.Record.{Record}
-use Rattle.ax_core.specs.Contexts.{same_id, answer_if, answer_in, StageStands, IsContext, ContextStands}
-use Rattle.ax_core.specs.Keys.{OwnerStands, IsMark, ItemStands, ItemsStand, PartStands}
+use Rattle.ax_core.specs.Contexts.{same_id, answer_if, answer_in, StageStands, ContextStands}
+use Rattle.ax_core.specs.Keys.{OwnerStands, ItemsStand, PartStands}
 
 -- what is held of an id is of a key
 abbrev pub KeyIn : Key → Option (Held Record) → Type 0

@@ -1,10 +1,9 @@
 -- A payload that is changed where it lies.
-use Rattle.std.proofs.Common.{◌≡◌, ℕ, Option, Some, None, IsSome, IsSomeAnd, Result, Ok, Err, IfOk, refl, sym, ap, ◌∙◌, subst}
+use Rattle.std.proofs.Common.{◌≡◌, ℕ, Option, Some, None, IsSome, IsSomeAnd, Result, Ok, Err, IfOk, refl, sym, subst}
 use Rattle.ax_base.specs.declared.outside.NoMemory.{NoMemory}
 use Rattle.ax_text.specs.declared.vocabulary.Answer.{Answer}
 use Rattle.ax_lang.specs.declared.program.Program.{Program}
 use Rattle.ax_future.specs.declared.callback.Turn.{Turn}
-use Rattle.ax_future.specs.declared.machine.Machine.{Machine}
 use Rattle.ax_context.specs.declared.id.Id.{Id}
 use Rattle.ax_context.specs.declared.contexts.Context.{Context}
 use Rattle.ax_context.specs.Slots.{Slots, at, Has, IsLive, IsPaid, with_payload}

@@ -1,5 +1,5 @@
 -- The mark in front of a key that was handed over fires.
-use Rattle.std.proofs.Common.{◌≡◌, ◌<◌, ℕ, ℤ, Bool, true, false, cond, ◌&&◌, List, [], ◌∷◌, length, Option, Some, None, IsSome, nat_lt, refl, sym, ap, ◌∙◌, subst}
+use Rattle.std.proofs.Common.{◌≡◌, ◌<◌, ℕ, ℤ, Bool, true, false, cond, ◌&&◌, List, [], ◌∷◌, length, None, IsSome, nat_lt, refl, sym, ap, ◌∙◌, subst}
 use Rattle.ax_keys.specs.declared.TheConstants.{MOST_FIRINGS}
 use Rattle.ax_text.specs.Times.{least_time}
 use Rattle.ax_machine.specs.Entries.{Key}

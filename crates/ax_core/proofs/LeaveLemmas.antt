@@ -1,10 +1,10 @@
 -- The book of epochs where some of their work is done.
-use Rattle.std.proofs.Common.{◌≡◌, ◌≢◌, ℕ, zero, suc, ◌+◌, ◌-◌, ◌%◌, ◌^◌, ◌≤◌, ◌<◌, nat_eq, ℤ, Bool, true, false, cond, not, List, [], ◌∷◌, ◌++◌, map, length, refl, sym, ap, ◌∙◌, subst, arith, eqb-true}
+use Rattle.std.proofs.Common.{◌≡◌, ℕ, zero, suc, ◌+◌, ◌-◌, ◌%◌, ◌^◌, ◌≤◌, ◌<◌, nat_eq, ℤ, Bool, true, false, cond, not, List, [], ◌∷◌, ◌++◌, map, length, refl, sym, ap, ◌∙◌, subst, arith, eqb-true}
 use Rattle.std.proofs.lemmas.Bool.{eq-eqb}
 use Rattle.std.proofs.lemmas.List.{length-map}
 use Rattle.ax_time.specs.declared.epoch.Marker.{Marker}
 use Rattle.ax_time.specs.declared.epoch.Closed.{Closed as Kept}
-use Rattle.ax_time.specs.Epochs.{Book, Fits64, current_of, place_of, IsOpen, count_at, count_of, put_closed, put_current, with_count, markers_of}
+use Rattle.ax_time.specs.Epochs.{Book, Fits64, current_of, place_of, IsOpen, count_at, count_of, put_closed, put_current, markers_of}
 use Rattle.ax_text.specs.declared.vocabulary.Handler.{Handler}
 use Rattle.ax_text.specs.declared.vocabulary.Handler.TheVariants as handler
 use Rattle.ax_execution.specs.Contexts.{Waiting, Row, Mark, may_fire}

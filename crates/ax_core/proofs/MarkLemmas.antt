@@ -1,15 +1,15 @@
 -- The marks in front of a key that fire nothing are taken off.
-use Rattle.std.proofs.Common.{◌≡◌, ◌≢◌, ℕ, ◌+◌, ◌<◌, ℤ, Bool, true, false, cond, not, ◌||◌, if◌then◌else◌, List, [], ◌∷◌, length, drop, Option, Some, None, refl, sym, ap, ◌∙◌, subst, arith}
+use Rattle.std.proofs.Common.{◌≡◌, ℕ, ◌+◌, ◌<◌, ℤ, Bool, true, false, cond, not, ◌||◌, List, [], ◌∷◌, length, Some, None, refl, sym, ap, ◌∙◌, subst, arith}
 use Rattle.ax_machine.specs.Entries.{Key}
 use Rattle.ax_machine.proofs.FiringLemmas.{key_is}
 use Rattle.ax_time.proofs.KeptLemmas.{same_key as same_bytes}
 use Rattle.ax_account.specs.declared.part.Waiting.{Waiting}
 use Rattle.ax_account.specs.declared.part.Waiting.TheVariants as item
 use Rattle.ax_account.specs.declared.part.Next.{Next}
-use Rattle.ax_account.specs.Parts.{Part, free, next_of, taken_up, mark_ended, is_mark}
-use Rattle.ax_account.specs.Accounts.{Accounts, part_of, waiting_of, owner_of, total, Changes}
+use Rattle.ax_account.specs.Parts.{Part, next_of, taken_up, mark_ended, is_mark}
+use Rattle.ax_account.specs.Accounts.{Accounts, part_of, waiting_of, total, Changes}
 use Rattle.ax_account.specs.Queues.{same_key, has_key, without}
-use Rattle.ax_time.specs.Epochs.{Book, IsOpen, count_of}
+use Rattle.ax_time.specs.Epochs.{Book}
 use Rattle.ax_core.specs.Callbacks.{fires, ending, behind_marks, ended, left_by_one, all_left, AllMayLeave, OthersIdle}
 
 pub changes_then : (a b d : Accounts) (key : Key) (x y : Part) → Changes a b key x → Changes b d key y → Changes a d key y

@@ -1,5 +1,5 @@
 -- What the parts of a callback's end do.
-use Rattle.std.specs.Prelude.{◌≡◌, ◌<◌, ◌≤◌, ℕ, ◌+◌, ◌-◌, ℤ, pos, nat_lt, Bool, true, false, ◌&&◌, if◌then◌else◌, List, [], ◌∷◌, ◌++◌, map, length, Option, Some, None}
+use Rattle.std.specs.Prelude.{◌≡◌, ◌<◌, ℕ, ◌+◌, ◌-◌, ℤ, pos, nat_lt, Bool, true, false, ◌&&◌, if◌then◌else◌, List, [], ◌∷◌, ◌++◌, map, length, Option, Some, None}
 use Rattle.std.specs.List.{slice_set}
 use Rattle.ax_keys.specs.declared.TheConstants.{MOST_FIRINGS}
 use Rattle.ax_text.specs.declared.vocabulary.Answer.{Answer}

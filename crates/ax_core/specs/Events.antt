@@ -1,19 +1,15 @@
 -- The events that a call makes.
-use Rattle.std.specs.Prelude.{◌≡◌, ◌<◌, ℕ, ℤ, List, [], ◌∷◌, ◌++◌, map, Bool, true, false, Option, Some, None}
-use Rattle.ax_text.specs.declared.vocabulary.Request.{Request}
-use Rattle.ax_text.specs.declared.vocabulary.Answer.{Answer}
+use Rattle.std.specs.Prelude.{◌≡◌, ◌<◌, ℕ, ℤ, List, [], ◌∷◌, ◌++◌, map, true, Option, Some, None}
 use Rattle.ax_text.specs.Controls.{request_at}
 use Rattle.ax_lang.specs.Shown.{shown_program}
-use Rattle.ax_machine.specs.Entries.{Key, Entry, says}
+use Rattle.ax_machine.specs.Entries.{Key, says}
 use Rattle.ax_buffer.specs.declared.items.Item.{Item}
 use Rattle.ax_buffer.specs.declared.items.Reply.{Reply}
-use Rattle.ax_context.specs.declared.id.Id.{Id}
 use Rattle.ax_context.specs.declared.contexts.Context.{Context as Held}
 use Rattle.ax_context.specs.Slots.{at}
 use Rattle.ax_time.specs.declared.epoch.Marker.{Marker}
 use Rattle.ax_execution.specs.Contexts.{Stage, Unbegun, Begun, Context, Waiting, Row, Mark}
-use Rattle.ax_execution.specs.Machine.{Closed, Happening, Admit, Close, Fire, Start, Serve, Deliver, Send}
-use Rattle.ax_execution.specs.KeyControls.{KeyControl}
+use Rattle.ax_execution.specs.Machine.{Closed, Happening, Fire, Start, Serve, Deliver, Send}
 use Rattle.ax_execution.specs.ControlTurns.{is_idle_on}
 use Rattle.ax_execution.specs.MachineControls.{MachineControl, happens_on, outcome_on, in_flight_on}
 use Rattle.ax_execution.specs.ControlsAllowed.{AllowedOn, IsOpenOn, NoneIsIdleOn, FirstIsFinishedOn, Answered, IsRunOn, after_all_on}

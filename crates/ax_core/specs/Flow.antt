@@ -1,5 +1,5 @@
 -- The way of the requests: each that waits is in the queue of its key's shard, out in a batch, or answered by a mail.
-use Rattle.std.specs.Prelude.{◌≡◌, ◌≤◌, ◌<◌, ℕ, ◌+◌, ◌*◌, nat_eq, Bool, true, false, ◌&&◌, cond, List, [], ◌∷◌, map, length, Option, Some, None, is_none}
+use Rattle.std.specs.Prelude.{◌≡◌, ℕ, ◌+◌, nat_eq, Bool, false, ◌&&◌, cond, List, [], ◌∷◌, map, length, Option, Some, None, is_none}
 use Rattle.std.specs.List.{Contains, slice_index_or}
 use Rattle.ax_text.specs.Controls.{Ask'}
 use Rattle.ax_text.specs.Prints.{has}

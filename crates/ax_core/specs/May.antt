@@ -1,6 +1,5 @@
 -- What a controller may do, read off its rooms.
-use Rattle.std.specs.Prelude.{◌≡◌, ◌<◌, ℕ, ℤ, ◌<ℤ◌, nat_lt, Bool, true, false, ◌&&◌, ◌||◌, not, List, [], ◌∷◌, length}
-use Rattle.ax_buffer.specs.Buffer.{queue_of}
+use Rattle.std.specs.Prelude.{◌<ℤ◌, nat_lt, Bool, true, false, ◌&&◌, ◌||◌, not, List, [], ◌∷◌}
 use Rattle.ax_context.specs.Slots.{live_count}
 use Rattle.ax_time.specs.declared.epoch.Marker.{Marker}
 use Rattle.ax_time.specs.declared.epoch.Marker.TheVariants as marker

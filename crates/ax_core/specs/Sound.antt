@@ -1,6 +1,6 @@
 -- What holds of a controller between its calls.
-use Rattle.std.specs.Prelude.{◌≡◌, ◌≤◌, ℕ, ◌+◌, ◌*◌, List, Option, Some, None}
-use Rattle.ax_text.specs.Programs.{Program, program_width}
+use Rattle.std.specs.Prelude.{◌≡◌, ◌≤◌, ◌+◌, ◌*◌, None}
+use Rattle.ax_text.specs.Programs.{program_width}
 use Rattle.ax_lang.specs.Shown.{shown_program}
 use Rattle.ax_keys.specs.Groups.{MayCut}
 use Rattle.ax_execution.specs.Machine.{Rules}

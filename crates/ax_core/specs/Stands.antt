@@ -1,5 +1,5 @@
 -- What the controller stands for: a control of the machine, whatever the states hold.
-use Rattle.std.specs.Prelude.{◌≡◌, ℕ, ◌+◌, true, Option, Some, None}
+use Rattle.std.specs.Prelude.{◌≡◌, true}
 use Rattle.ax_machine.specs.Entries.{Key}
 use Rattle.ax_context.specs.Slots.{live_count}
 use Rattle.ax_account.specs.Queues.{has_key}

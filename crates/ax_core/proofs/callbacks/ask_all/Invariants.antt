@@ -1,5 +1,4 @@
-use Rattle.std.proofs.Common.{◌≡◌, ◌+◌, ◌≤◌, ◌<◌, List, length}
-use Rattle.ax_buffer.specs.declared.items.Item.{Item}
+use Rattle.std.proofs.Common.{◌+◌, ◌≤◌, ◌<◌, length}
 use Rattle.ax_buffer.specs.Buffer.{Buffer, total}
 use Rattle.ax_context.specs.Slots.{Slots, Has}
 use Rattle.ax_core.specs.declared.record.Record.{Record}
