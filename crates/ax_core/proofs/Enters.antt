@@ -57,13 +57,13 @@ current_few m h = total_few (λ k. control_of_epoch m.epoch (m.controls k)) (λ 
 
 -- the book: one count is set
 
-own_count : (cs : List Ended) (count place n : ℕ) → place ≤ length cs → count_at (put_closed cs place n) (put_current cs count place n) place ≡ n
+pub own_count : (cs : List Ended) (count place n : ℕ) → place ≤ length cs → count_at (put_closed cs place n) (put_current cs count place n) place ≡ n
 own_count [] count zero n h = refl
 own_count [] count (suc place) n h = omega (arith, h)
 own_count (c ∷ cs) count zero n h = refl
 own_count (c ∷ cs) count (suc place) n h = own_count cs count place n (omega (arith, h))
 
-other_count : (cs : List Ended) (count place q n : ℕ) → (place ≡ q → ⊥) → count_at (put_closed cs place n) (put_current cs count place n) q ≡ count_at cs count q
+pub other_count : (cs : List Ended) (count place q n : ℕ) → (place ≡ q → ⊥) → count_at (put_closed cs place n) (put_current cs count place n) q ≡ count_at cs count q
 other_count [] count zero zero n h = absurd (h refl)
 other_count [] count zero (suc q) n h = refl
 other_count [] count (suc place) zero n h = refl
@@ -73,12 +73,12 @@ other_count (c ∷ cs) count zero (suc q) n h = refl
 other_count (c ∷ cs) count (suc place) zero n h = refl
 other_count (c ∷ cs) count (suc place) (suc q) n h = other_count cs count place q n (λ e. h (ap suc e))
 
-put_markers : (cs : List Ended) (place n : ℕ) → markers_of (put_closed cs place n) ≡ markers_of cs
+pub put_markers : (cs : List Ended) (place n : ℕ) → markers_of (put_closed cs place n) ≡ markers_of cs
 put_markers [] place n = refl
 put_markers (c ∷ cs) zero n = refl
 put_markers (c ∷ cs) (suc place) n = ap (λ (ms : List Marker). c.marker ∷ ms) (put_markers cs place n)
 
-put_length : (cs : List Ended) (place n : ℕ) → length (put_closed cs place n) ≡ length cs
+pub put_length : (cs : List Ended) (place n : ℕ) → length (put_closed cs place n) ≡ length cs
 put_length [] place n = refl
 put_length (c ∷ cs) zero n = refl
 put_length (c ∷ cs) (suc place) n = ap suc (put_length cs place n)

@@ -1,10 +1,9 @@
 -- The book of epochs where some of their work is done.
-use Rattle.std.proofs.Common.{◌≡◌, ℕ, zero, suc, ◌+◌, ◌-◌, ◌%◌, ◌^◌, ◌≤◌, ◌<◌, nat_eq, ℤ, Bool, true, false, cond, not, List, [], ◌∷◌, ◌++◌, map, length, refl, sym, ap, ◌∙◌, subst, arith, eqb-true}
+use Rattle.std.proofs.Common.{◌≡◌, ℕ, suc, ◌+◌, ◌-◌, ◌%◌, ◌^◌, ◌≤◌, ◌<◌, nat_eq, ℤ, Bool, true, false, cond, not, List, [], ◌∷◌, ◌++◌, map, length, refl, sym, ap, ◌∙◌, subst, arith, eqb-true}
 use Rattle.std.proofs.lemmas.Bool.{eq-eqb}
 use Rattle.std.proofs.lemmas.List.{length-map}
 use Rattle.ax_time.specs.declared.epoch.Marker.{Marker}
-use Rattle.ax_time.specs.declared.epoch.Closed.{Closed as Kept}
-use Rattle.ax_time.specs.Epochs.{Book, Fits64, current_of, place_of, IsOpen, count_at, count_of, put_closed, put_current, markers_of}
+use Rattle.ax_time.specs.Epochs.{Book, Fits64, current_of, place_of, IsOpen, count_of, markers_of}
 use Rattle.ax_text.specs.declared.vocabulary.Handler.{Handler}
 use Rattle.ax_text.specs.declared.vocabulary.Handler.TheVariants as handler
 use Rattle.ax_execution.specs.Contexts.{Waiting, Row, Mark, may_fire}
@@ -17,33 +16,8 @@ use Rattle.ax_execution.proofs.Upto.{by_cases}
 use Rattle.ax_core.specs.Contexts.{wrapped}
 use Rattle.ax_core.specs.Callbacks.{left_by_one, all_left, AllMayLeave, row_epochs}
 use Rattle.ax_core.specs.Epochs.{MarkersStand, EpochsStand}
+use Rattle.ax_core.proofs.Enters.{own_count, other_count, put_markers, put_length}
 use Rattle.ax_core.proofs.HandLemmas.{how_many, ended_on}
-
-own_count : (cs : List Kept) (count place n : ℕ) → place ≤ length cs → count_at (put_closed cs place n) (put_current cs count place n) place ≡ n
-own_count [] count zero n h = refl
-own_count [] count (suc place) n h = omega (arith, h)
-own_count (c ∷ cs) count zero n h = refl
-own_count (c ∷ cs) count (suc place) n h = own_count cs count place n (omega (arith, h))
-
-other_count : (cs : List Kept) (count place q n : ℕ) → (place ≡ q → ⊥) → count_at (put_closed cs place n) (put_current cs count place n) q ≡ count_at cs count q
-other_count [] count zero zero n h = absurd (h refl)
-other_count [] count zero (suc q) n h = refl
-other_count [] count (suc place) zero n h = refl
-other_count [] count (suc place) (suc q) n h = refl
-other_count (c ∷ cs) count zero zero n h = absurd (h refl)
-other_count (c ∷ cs) count zero (suc q) n h = refl
-other_count (c ∷ cs) count (suc place) zero n h = refl
-other_count (c ∷ cs) count (suc place) (suc q) n h = other_count cs count place q n (λ e. h (ap suc e))
-
-put_markers : (cs : List Kept) (place n : ℕ) → markers_of (put_closed cs place n) ≡ markers_of cs
-put_markers [] place n = refl
-put_markers (c ∷ cs) zero n = refl
-put_markers (c ∷ cs) (suc place) n = ap (λ (rest : List Marker). c.marker ∷ rest) (put_markers cs place n)
-
-put_length : (cs : List Kept) (place n : ℕ) → length (put_closed cs place n) ≡ length cs
-put_length [] place n = refl
-put_length (c ∷ cs) zero n = refl
-put_length (c ∷ cs) (suc place) n = ap suc (put_length cs place n)
 
 -- a book whose current epoch is this one modulo 2 ^ 64, and what is left of each open epoch
 pub record Counts (book : Book) (current : ℕ) (left : ℕ → ℕ) : Type 0 where

@@ -50,6 +50,7 @@ impl Controller {
         requires may { may_admit self.old ≡ true }
         ensures sound { OnOk result (IsSound self.new) }
         ensures same { OnOk result (SameRules self.old self.new) }
+        ensures outs { OnOk result (self.new.outs ≡ self.old.outs) }
         ensures event { IfOk result (λ n. (m : MachineControl) → StandsFor self.old m → Makes self.old self.new (Admit n key time values) m) }
     {
         sizes_law(&self.epochs);

@@ -1,8 +1,9 @@
 //! Requests go out in batches, and replies come back.
-ghost use Rattle.std.specs.Prelude.{◌≡◌, ◌+◌, ◌<◌, ◌≤◌, ◌++◌, length, take, IfOk, OnOk};
+ghost use Rattle.std.specs.Prelude.{◌≡◌, ◌+◌, ◌<◌, ◌≤◌, ◌++◌, length, take, slice_set, IfOk, OnOk};
 ghost use Rattle.std.specs.List.{remove_range};
 ghost use Rattle.ax_buffer.specs.Buffer.{queue_of};
 ghost use Rattle.ax_execution.specs.MachineControls.{MachineControl};
+ghost use Rattle.ax_core.specs.Flow.{out_of};
 ghost use Rattle.ax_core.specs.Sound.{StandsFor, IsSound};
 ghost use Rattle.ax_core.specs.Events.{SameRules, AsksAll, AreOut, IsBatchOut, ServesAll, names_in};
 ghost use Rattle.ax_core.specs.Batches.{IsPlaceOf, Forgets, mails_in};
@@ -41,6 +42,7 @@ impl Controller {
         ensures stands { OnOk result ((m : MachineControl) → StandsFor self.old m → StandsFor self.new m) }
         ensures asks { IfOk result (λ batch. (m : MachineControl) → StandsFor self.old m → AsksAll self.old shard m batch) }
         ensures out { IfOk result (λ batch. AreOut self.new shard batch) }
+        ensures outs { IfOk result (λ batch. self.new.outs.items ≡ slice_set self.old.outs.items shard (out_of self.old shard ++ names_in batch)) }
     {
         let batch = self.buffer.take_batch(self.alloc, shard, max)?;
         put_names(&mut self.outs[shard as usize], &batch)?;

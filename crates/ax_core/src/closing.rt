@@ -46,6 +46,7 @@ impl Controller {
         requires next { IsNext self.old m }
         ensures sound { OnOk result (IsSound self.new) }
         ensures same { OnOk result (SameRules self.old self.new) }
+        ensures outs { OnOk result (self.new.outs ≡ self.old.outs) }
         ensures event { OnOk result ((c : MachineControl) → StandsFor self.old c → Makes self.old self.new (Close (closing_of m)) c) }
     {
         match m {
@@ -61,6 +62,7 @@ impl Controller {
         requires next { self.old.wm <ℤ time }
         ensures sound { OnOk result (IsSound self.new) }
         ensures same { OnOk result (SameRules self.old self.new) }
+        ensures outs { OnOk result (self.new.outs ≡ self.old.outs) }
         ensures event { OnOk result ((c : MachineControl) → StandsFor self.old c → Makes self.old self.new (Close (ByWatermark time)) c) }
     {
         sizes_law(&self.epochs);
@@ -84,6 +86,7 @@ impl Controller {
         requires may { may_close self.old ≡ true }
         ensures sound { OnOk result (IsSound self.new) }
         ensures same { OnOk result (SameRules self.old self.new) }
+        ensures outs { OnOk result (self.new.outs ≡ self.old.outs) }
         ensures event { OnOk result ((c : MachineControl) → StandsFor self.old c → Makes self.old self.new (Close (ByBarrier id)) c) }
     {
         sizes_law(&self.epochs);
@@ -100,6 +103,7 @@ impl Controller {
         requires { IsSound self.old }
         ensures sound { IsSound self.new }
         ensures same { SameRules self.old self.new }
+        ensures outs { self.new.outs ≡ self.old.outs }
         ensures event { (c : MachineControl) → StandsFor self.old c → SendsNext self.old self.new result c }
     {
         sizes_law(&self.epochs);

@@ -24,7 +24,8 @@ use ax_mailbox::Mailbox;
 use ax_time::{Epochs, Timers};
 use std::alloc::Global;
 
-/// The controller. After `NoMemory` it may only be dropped.
+/// The controller. After `NoMemory` it may only be dropped: each call wants it as `new` and each call that did not answer
+/// `NoMemory` left it (`IsSound`).
 #[derive(Drop)]
 pub struct Controller {
     pub(crate) alloc: Global,

@@ -48,6 +48,7 @@ impl Controller {
         requires may { may_fire self.old ≡ true }
         ensures sound { OnOk result (IsSound self.new) }
         ensures same { OnOk result (SameRules self.old self.new) }
+        ensures outs { OnOk result (self.new.outs ≡ self.old.outs) }
         ensures event { IfOk result (λ f. (m : MachineControl) → StandsFor self.old m → Fires self.old self.new f m) }
     {
         program_is_accepted();

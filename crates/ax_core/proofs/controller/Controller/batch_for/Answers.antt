@@ -35,3 +35,9 @@ returns-clause-asks c =
     let a : Controller = c.args.self.now in
     let same : c.in_ok-batch.batch ≡ take c.args.max (queue_of a.buffer c.args.shard) = c.in_ok-batch.ensures.batch in
     λ m x. subst (λ (is : List Item). AsksAll a c.args.shard m is) (sym same) (asks_batch a m c.requires.sound.flow x.stands c.args.shard c.args.max)
+
+pub returns-clause-outs : goal.returns-clause-outs
+returns-clause-outs c =
+    let a : Controller = c.args.self.now in
+    let there : (c.args.shard < length a.buffer.queues) × (c.args.shard < length a.outs.items) = there_too a c.args.shard c.requires.sound.flow c.requires.shard in
+    outs_put a.outs.items c.args.shard c.index_mut.result.now c.put_names.new.out c.in_ok-batch.batch c.in_ok-batch.batch there.1 c.index_mut.ensures.value c.in_ok-put_names.ensures refl
