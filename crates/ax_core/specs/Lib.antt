@@ -1,4 +1,5 @@
 pub mod Callbacks
+pub mod Calls
 pub mod Contexts
 pub mod Keys
 pub mod Flow

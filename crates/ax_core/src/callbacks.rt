@@ -33,6 +33,96 @@ impl Controller {
         self.mails.len() > 0
     }
 
+    /// Runs the first mail: a handler begins, or is given the answer that it waited for. Its requests join the queue of its key's
+    /// shard, in the order of their slots, its timers are set, and its lines are told. Where it has ended, its context is given
+    /// up, and the next row of the key is to be started, or its next timer fires.
+    ///
+    /// Condition: `mail_waits()`.
+    pub fn run_mail(&mut self) -> Result<Effects, NoMemory>
+        requires sound { IsSound self.old }
+        requires mail { has_mail self.old ≡ true }
+        ensures sound { OnOk result (IsSound self.new) }
+        ensures same { OnOk result (SameRules self.old self.new) }
+        ensures outs { OnOk result (self.new.outs ≡ self.old.outs) }
+        ensures event { IfOk result (λ f. (m : MachineControl) → StandsFor self.old m → Runs self.old self.new f m) }
+    {
+        match self.mails.take() {
+            Some(Mail::Start { id } | Mail::Fire { id }) => self.run_start(id),
+            Some(Mail::Reply { id, slot, answer }) => self.run_reply(id, slot, answer),
+            None => unreachable!(),
+        }
+    }
+
+    // The handler of a context begins.
+    fn run_start(&mut self, id: Id) -> Result<Effects, NoMemory>
+        requires { MayStart self.old id }
+        ensures ran { IfOk result (λ f. Has self.old.contexts id (λ h. f.ran ≡ ran.Start h.number)) }
+        ensures started { IfOk result (λ f. Has self.old.contexts id (Started self.old self.new id f)) }
+    {
+        let ran = Ran::Start {
+            context: self.contexts.number(id),
+        };
+        let turn = begin_at(self.alloc, &self.program, &mut self.contexts, id)?;
+        self.end_callback(id, ran, turn)
+    }
+
+    // It is given an answer.
+    fn run_reply(&mut self, id: Id, slot: u8, answer: Answer) -> Result<Effects, NoMemory>
+        requires { MayReply self.old id slot answer }
+        ensures ran { IfOk result (λ f. Has self.old.contexts id (λ h. f.ran ≡ ran.Reply h.number slot)) }
+        ensures replied { IfOk result (λ f. Has self.old.contexts id (Replied self.old self.new id slot answer f)) }
+    {
+        let ran = Ran::Reply {
+            context: self.contexts.number(id),
+            slot,
+        };
+        let turn = resume_at(&self.program, &mut self.contexts, id, slot, answer)?;
+        self.end_callback(id, ran, turn)
+    }
+
+    // Its timers are set, its requests asked, and a reference given up. Where that was the last, its key goes on.
+    fn end_callback(&mut self, id: Id, ran: Ran, turn: Turn) -> Result<Effects, NoMemory>
+        requires { IsReady self.old id turn }
+        ensures ran { IfOk result (λ f. f.ran ≡ ran) }
+        ensures ends { IfOk result (λ f. Has self.old.contexts id (λ h. CallEnds self.old self.new id h turn f)) }
+    {
+        let Turn {
+            asks,
+            outs,
+            timer_ops,
+        } = turn;
+        let key = self.contexts.get(id).facts.key.copy(self.alloc)?;
+        let shard = self.shard_of(&key);
+        set_timers(&mut self.timers, &key, timer_ops.as_slice())?;
+        ask_all(
+            self.alloc,
+            &mut self.contexts,
+            &mut self.buffer,
+            shard,
+            id,
+            &key,
+            asks,
+        )?;
+        let Released::Gone { payload, epoch, .. } = self.contexts.release(id) else {
+            return Ok(Effects {
+                key,
+                ran,
+                outs,
+                gone: false,
+                fired: None,
+            });
+        };
+        leave_row(&mut self.epochs, payload.handler, epoch);
+        let fired = self.go_on(&key)?;
+        Ok(Effects {
+            key,
+            ran,
+            outs,
+            gone: true,
+            fired,
+        })
+    }
+
     // A key whose owner is given up is handed over, and a row that owns it now is to be started. Tells what comes next.
     fn hand_on(&mut self, key: &Key) -> Next
         requires owner { IsSome (owner_of self.old.accounts key.now) }
