@@ -11,6 +11,7 @@ pub mod AskLemmas
 pub mod AskedLemmas
 pub mod BatchLemmas
 pub mod CallLemmas
+pub mod Called
 pub mod CalledLemmas
 pub mod Deliveries
 pub mod EventLemmas
