@@ -26,7 +26,7 @@ use Rattle.ax_execution.specs.ControlTurns.{called_back_on}
 use Rattle.ax_execution.specs.KeyControls.{KeyControl}
 use Rattle.ax_execution.specs.Machine.{Happening, Start, Deliver}
 use Rattle.ax_execution.specs.MachineControls.{MachineControl, calls_back_on, happens_on, outcome_of_effects, outcome_on}
-use Rattle.ax_execution.specs.ControlsAllowed.{AllowedOn}
+use Rattle.ax_execution.specs.ControlsAllowed.{AllowedOn, IsAnswered}
 use Rattle.ax_execution.proofs.Upto.{by_cases}
 use Rattle.ax_core.specs.declared.record.Record.{Record}
 use Rattle.ax_core.specs.declared.controller.Controller.{Controller}
@@ -50,6 +50,7 @@ pub record Calls (a : Controller) (m : MachineControl) (ns : List Mail) (id : Id
   pub owner : (m.controls h.payload.facts.key).owner ≡ Some context
   pub stands : IsContext a.program a.mails.mails h.payload.facts.key id h context
   pub allowed : AllowedOn (rules_of a.settings) e m
+  pub answered : IsAnswered e None
   pub turn : Turn
   pub answers : Answers
   pub left : turn ≡ machine.left_by a.program after t
@@ -185,6 +186,7 @@ calls_start a m first ns id h s t flow x taken starts here b =
       owner = own.owner;
       stands = own.stands;
       allowed = (x.settled, may_start (m.controls key) own.context own.owner stage);
+      answered = tt;
       turn = begins (shown_program a.program) own.context.job;
       answers = unanswered;
       left = left;
@@ -257,6 +259,7 @@ module _ (a : Controller) (m : MachineControl) (ns : List Mail) (id : Id) (slot 
         owner = runs.owner;
         stands = runs.stands;
         allowed = (x.settled, may_deliver (m.controls key) runs.context runs.owner runs.running slot answer runs.stage there);
+        answered = tt;
         turn = gives runs.context.job runs.running slot answer;
         answers = upd runs.running.answers slot None;
         left = left;
