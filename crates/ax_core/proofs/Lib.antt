@@ -36,3 +36,6 @@ pub mod Enters
 pub mod Numbers
 pub mod Rows
 pub mod Taken
+pub mod Replaced
+pub mod CalledFlow
+pub mod CallFlows
