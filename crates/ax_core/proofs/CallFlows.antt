@@ -1,7 +1,7 @@
 -- The flow of the requests where a handler begins, and where it is given an answer.
-use Rattle.std.proofs.Common.{◌≡◌, ◌≢◌, ℕ, ◌+◌, ◌≤◌, ◌<◌, ◌%◌, nat_eq, ℤ, Bool, true, false, ◌&&◌, List, [], ◌∷◌, map, length, Option, Some, None, IsSomeAnd, is_none, refl, sym, ap, ◌∙◌, subst, Contains, cond, arith, eqb-true}
+use Rattle.std.proofs.Common.{◌≡◌, ◌≢◌, ℕ, ◌+◌, ◌*◌, ◌≤◌, ◌<◌, ◌%◌, nat_eq, ℤ, Bool, true, false, ◌&&◌, List, [], ◌∷◌, map, length, Option, Some, None, IsSomeAnd, is_none, refl, sym, ap, ◌∙◌, subst, Contains, cond, arith, eqb-true}
 use Rattle.std.specs.Str.{bytes_eq}
-use Rattle.std.specs.List.{list_any}
+use Rattle.std.specs.List.{list_any, slice_index_or}
 use Rattle.std.proofs.lemmas.Bool.{eq-eqb}
 use Rattle.std.proofs.lemmas.List.{length-map}
 use Rattle.std.proofs.lemmas.Nat.{mod_below}
@@ -11,6 +11,7 @@ use Rattle.ax_text.specs.declared.vocabulary.Answer.{Answer}
 use Rattle.ax_text.specs.declared.vocabulary.Request.{Request}
 use Rattle.ax_text.specs.Exprs.{Facts}
 use Rattle.ax_text.specs.Prints.{has}
+use Rattle.ax_text.specs.Programs.{program_width}
 use Rattle.ax_text.specs.Controls.{Ask' as Asked, Control, slots, waiting, replaced}
 use Rattle.ax_text.specs.Underway.{SlotsRise, Differ}
 use Rattle.ax_text.proofs.Asked.{slots_waiting}
@@ -44,6 +45,7 @@ use Rattle.ax_execution.specs.Reached.{IsOrderly}
 use Rattle.ax_execution.proofs.ReachedOrderly.{reached_orderly}
 use Rattle.ax_execution.proofs.Upto.{by_cases}
 use Rattle.ax_core.specs.declared.record.Record.{Record}
+use Rattle.ax_core.specs.declared.record.Name.{Name}
 use Rattle.ax_core.specs.declared.effects.Fired.{Fired}
 use Rattle.ax_core.specs.declared.effects.Effects.{Effects}
 use Rattle.ax_core.specs.declared.settings.Settings.{Settings}
@@ -51,17 +53,20 @@ use Rattle.ax_core.specs.declared.controller.Controller.{Controller}
 use Rattle.ax_core.specs.Contexts.{same_id, StageStands, IsContext, ContextStands, waits_in, waits_at}
 use Rattle.ax_core.specs.Keys.{OwnerStands, ItemsStand}
 use Rattle.ax_core.specs.Flow.{shard_of, one_if, names_request, answers_as, answered_as, starts_as, started_as, in_queues, in_outs, waits_for, is_owner, is_to_start, OwnsBegun, OwnsOnceBegun, IsFlow}
-use Rattle.ax_core.specs.Sound.{InRange, rules_of, IsSound}
+use Rattle.ax_core.specs.Sound.{InRange, rules_of, HasRooms, IsSound}
+use Rattle.ax_core.specs.Events.{SameRules, KeysStay}
+use Rattle.ax_core.specs.Firings.{FiresAt}
 use Rattle.ax_core.specs.Callbacks.{with_machine, Begins, Resumed, ResumedAt, items_for, IsQueued, with_start, behind_marks, fires, waits_next, HandsOver, GoesOn}
 use Rattle.ax_core.specs.Calls.{IsDone, WaitsOn, IsGivenUp, GivesUp, EndsBy, CallEnds, Started, Replied}
 use Rattle.ax_core.proofs.AskLemmas.{none_left}
-use Rattle.ax_core.proofs.CalledFlow.{Left, FlowsOn, flow_on}
+use Rattle.ax_core.proofs.CalledFlow.{Left, FlowsOn, flow_on, keys_on}
 use Rattle.ax_core.proofs.CalledLemmas.{AnswersNothing, once_begun, once_given}
 use Rattle.ax_core.proofs.CallLemmas.{begun_references, given_references}
 use Rattle.ax_core.proofs.EventLemmas.{no_row_numbered}
 use Rattle.ax_core.proofs.FiresFlow.{flow_fires}
 use Rattle.ax_core.proofs.Flows.{same_self, same_is}
 use Rattle.ax_core.proofs.Frames.{KeyIn}
+use Rattle.ax_core.proofs.KeysStay.{keys_made}
 use Rattle.ax_core.proofs.Open.{and_parts}
 use Rattle.ax_core.proofs.Owners.{names_itself}
 use Rattle.ax_core.proofs.Replaced.{contains_none, replaced_keeps, replaced_has}
@@ -154,6 +159,43 @@ record Behind (old b : Controller) (id : Id) (key : Key) (asks : List Ask) (ns :
   mails : b.mails.mails ≡ ns
   queued : IsQueued old.buffer b.buffer (shard_of old.settings key) (items_for id key asks)
   others : OthersStay old.contexts b.contexts id
+  limit : b.contexts.limit ≡ old.contexts.limit
+  room : b.mails.room ≡ old.mails.room
+
+-- what a callback leaves: the flow, what is out, the rules and the rooms
+pub record Follows (old b : Controller) : Type 0 where
+  pub flow : IsFlow b
+  pub outs : b.outs ≡ old.outs
+  pub keys : KeysStay old b
+  pub program : b.program ≡ old.program
+  pub settings : b.settings ≡ old.settings
+  pub limit : b.contexts.limit ≡ old.contexts.limit
+  pub requests : b.buffer.room ≡ old.buffer.room
+  pub room : b.mails.room ≡ old.mails.room
+
+pub follows_rules : (old b : Controller) → Follows old b → SameRules old b
+follows_rules old b x = record { program = x.program; settings = x.settings }
+
+pub follows_rooms : (old b : Controller) → Follows old b → HasRooms old → HasRooms b
+follows_rooms old b x h = record {
+  contexts = x.limit ∙ h.contexts ∙ sym (ap (λ (s : Settings). s.in_flight) x.settings);
+  requests = x.requests ∙ h.requests ∙ sym (λ j. (x.settings j).in_flight * program_width (shown_program (x.program j)));
+  mails = x.room ∙ h.mails ∙ sym (λ j. (x.settings j).in_flight * (program_width (shown_program (x.program j)) + 1));
+}
+
+-- and a timer that fires then
+pub follows_fires : (old a b : Controller) (key : Key) (f : Fired) → Follows old a → FiresAt a b key f → Follows old b
+follows_fires old a b key f x h = record {
+  flow = subst IsFlow (sym h.same) (flow_fires a b key f h h.none x.flow);
+  outs = ap (λ (c : Controller). c.outs) h.same ∙ x.outs;
+  keys = λ shard n c.
+      keys_made a b h.id x.flow h.free h.others shard n (subst (λ (ns : List Name). Contains ns n) (sym (λ j. slice_index_or (x.outs j).items shard [])) c) ∙ x.keys shard n c;
+  program = ap (λ (c : Controller). c.program) h.same ∙ x.program;
+  settings = ap (λ (c : Controller). c.settings) h.same ∙ x.settings;
+  limit = h.limit ∙ x.limit;
+  requests = ap (λ (c : Controller). c.buffer.room) h.same ∙ x.requests;
+  room = h.room ∙ x.room;
+}
 
 module _ (old : Controller) (id : Id) (m : Mail) (ns : List Mail) (s : Slots Record) (h : Held Record) (payload : Record) (t : Turn) (was xs : List Asked)
     (sound : IsSound old) (calls : CallsAt old id m ns s h payload t was xs) where
@@ -179,11 +221,13 @@ module _ (old : Controller) (id : Id) (m : Mail) (ns : List Mail) (s : Slots Rec
     mails = ap (λ (c : Controller). c.mails.mails) done.same;
     queued = done.queued;
     others = λ i differ. done.held.others i differ ∙ calls.paid.others i differ;
+    limit = done.held.limit ∙ calls.paid.limit;
+    room = ap (λ (c : Controller). c.mails.room) done.same;
   }
 
-  ended_behind : (mid b : Controller) (cs : Slots Record) (book : Book) → b ≡ record mid { contexts = cs; epochs = book } → OthersStay mid.contexts b.contexts id
+  ended_behind : (mid b : Controller) (cs : Slots Record) (book : Book) → b ≡ record mid { contexts = cs; epochs = book } → OthersStay mid.contexts b.contexts id → b.contexts.limit ≡ mid.contexts.limit
       → Behind old mid id payload.facts.key t.asks ns → Behind old b id payload.facts.key t.asks ns
-  ended_behind mid b cs book same others x = record {
+  ended_behind mid b cs book same others limit x = record {
     program = ap (λ (c : Controller). c.program) same ∙ x.program;
     settings = ap (λ (c : Controller). c.settings) same ∙ x.settings;
     outs = ap (λ (c : Controller). c.outs) same ∙ x.outs;
@@ -191,6 +235,8 @@ module _ (old : Controller) (id : Id) (m : Mail) (ns : List Mail) (s : Slots Rec
     mails = ap (λ (c : Controller). c.mails.mails) same ∙ x.mails;
     queued = subst (λ (c : Controller). IsQueued old.buffer c.buffer (shard_of old.settings payload.facts.key) (items_for id payload.facts.key t.asks)) (sym same) x.queued;
     others = λ i differ. others i differ ∙ x.others i differ;
+    limit = limit ∙ x.limit;
+    room = ap (λ (c : Controller). c.mails.room) same ∙ x.room;
   }
 
   -- ---- the row that comes next
@@ -233,39 +279,51 @@ module _ (old : Controller) (id : Id) (m : Mail) (ns : List Mail) (s : Slots Rec
 
   -- ---- its context waits on
 
-  waits_flow : (mid b : Controller) → Behind old mid id payload.facts.key t.asks ns → WaitsOn mid b id more → IsFlow b
-  waits_flow mid b x w = flow_on old b id payload.facts.key t.asks next.Free m ns was xs sound.flow (record {
-    named = has_key (at old.contexts id) calls.there;
-    owned = calls.owned;
-    waited = calls.waited;
-    left = subst (λ (o : Option (Held Record)). Left b id payload.facts.key xs o) (sym w.left) (record { named = refl; begun = ap is_none machine_is; waits = waits_now; owner = ap (λ (a : Accounts). owner_of a payload.facts.key) y.accounts ∙ calls.owned });
-    others = y.others;
+  waits_flow : (mid b : Controller) → Behind old mid id payload.facts.key t.asks ns → WaitsOn mid b id more → Follows old b
+  waits_flow mid b x w = record {
+    flow = flow_on old b id payload.facts.key t.asks next.Free m ns was xs sound.flow on;
+    outs = y.outs;
+    keys = keys_on old b id payload.facts.key t.asks next.Free m ns was xs sound.flow on;
     program = y.program;
     settings = y.settings;
-    outs = y.outs;
-    inside = inside;
-    queued = y.queued;
-    asked = calls.asked;
-    waits = calls.keeps;
-    taken = calls.taken;
-    posted = y.mails;
-    starts = calls.starts;
-    answers = calls.answers;
-    started = calls.started;
-    owners = λ q differ. ap (λ (a : Accounts). owner_of a q) y.accounts;
-    owner = λ i differ. ap (λ (a : Accounts). is_owner i (owner_of a payload.facts.key)) y.accounts ∙ ap (is_owner i) calls.owned ∙ differ;
-    next = λ i e. absurd (cc e);
-    once = calls.once b next.Free y.queued y.outs y.mails (ap (waits_at b.program) w.left ∙ waits_now);
-  })
+    limit = y.limit;
+    requests = y.queued.room;
+    room = y.room;
+  }
     where
       y : Behind old b id payload.facts.key t.asks ns
-      y = ended_behind mid b b.contexts mid.epochs w.same w.others x
+      y = ended_behind mid b b.contexts mid.epochs w.same w.others w.limit x
 
       machine_is : payload.machine ≡ Some calls.after
       machine_is = ap (λ (r : Record). r.machine) calls.made
 
       waits_now : waits_in b.program payload.machine ≡ xs
       waits_now = (λ j. waits_in (y.program j) (machine_is j)) ∙ calls.waits
+
+      on : FlowsOn old b id payload.facts.key t.asks next.Free m ns was xs
+      on = record {
+        named = has_key (at old.contexts id) calls.there;
+        owned = calls.owned;
+        waited = calls.waited;
+        left = subst (λ (o : Option (Held Record)). Left b id payload.facts.key xs o) (sym w.left) (record { named = refl; begun = ap is_none machine_is; waits = waits_now; owner = ap (λ (a : Accounts). owner_of a payload.facts.key) y.accounts ∙ calls.owned });
+        others = y.others;
+        program = y.program;
+        settings = y.settings;
+        outs = y.outs;
+        inside = inside;
+        queued = y.queued;
+        asked = calls.asked;
+        waits = calls.keeps;
+        taken = calls.taken;
+        posted = y.mails;
+        starts = calls.starts;
+        answers = calls.answers;
+        started = calls.started;
+        owners = λ q differ. ap (λ (a : Accounts). owner_of a q) y.accounts;
+        owner = λ i differ. ap (λ (a : Accounts). is_owner i (owner_of a payload.facts.key)) y.accounts ∙ ap (is_owner i) calls.owned ∙ differ;
+        next = λ i e. absurd (cc e);
+        once = calls.once b next.Free y.queued y.outs y.mails (ap (waits_at b.program) w.left ∙ waits_now);
+      }
 
   -- ---- or it is given up, and its key is handed over
 
@@ -278,34 +336,20 @@ module _ (old : Controller) (id : Id) (m : Mail) (ns : List Mail) (s : Slots Rec
       let none : 0 ≡ length (waiting (machine.control_of old.program calls.after)) = omega (arith, sum, waiting_length (machine.control_of old.program calls.after)) in
       sym calls.waits ∙ none_left (waiting (machine.control_of old.program calls.after)) none
 
-  hands_flow : (mid g b : Controller) → Behind old mid id payload.facts.key t.asks ns → IsGivenUp mid g id more → HandsOver g b payload.facts.key → IsFlow b
-  hands_flow mid g b x given hands = flow_on old b id payload.facts.key t.asks (next_of (waits_next g payload.facts.key)) m ns was xs sound.flow (record {
-    named = has_key (at old.contexts id) calls.there;
-    owned = calls.owned;
-    waited = calls.waited;
-    left = subst (λ (o : Option (Held Record)). Left b id payload.facts.key xs o) (sym gone) (none_waits given.last);
-    others = λ i differ. (λ j. at (contexts j) i) ∙ y.others i differ;
+  hands_flow : (mid g b : Controller) → Behind old mid id payload.facts.key t.asks ns → IsGivenUp mid g id more → HandsOver g b payload.facts.key → Follows old b
+  hands_flow mid g b x given hands = record {
+    flow = flow_on old b id payload.facts.key t.asks (next_of (waits_next g payload.facts.key)) m ns was xs sound.flow on;
+    outs = outs;
+    keys = keys_on old b id payload.facts.key t.asks (next_of (waits_next g payload.facts.key)) m ns was xs sound.flow on;
     program = program;
     settings = ap (λ (c : Controller). c.settings) hands.same ∙ y.settings;
-    outs = outs;
-    inside = inside;
-    queued = queued;
-    asked = calls.asked;
-    waits = calls.keeps;
-    taken = calls.taken;
-    posted = posted;
-    starts = calls.starts;
-    answers = calls.answers;
-    started = calls.started;
-    owners = λ q differ. ap (λ (p : Part). p.owner) (hands.part.others q differ) ∙ ap (λ (a : Accounts). owner_of a q) y.accounts;
-    owner = λ i differ. ap (λ (p : Part). is_owner i p.owner) hands.part.own ∙ next_owns i (waits_next g payload.facts.key);
-    next = λ i e. comes_next (times_of g.timers payload.facts.key) i
-        (subst (λ (a : Accounts). next_is i (next_of (behind_marks (times_of g.timers payload.facts.key) (waiting_of a payload.facts.key))) ≡ true) y.accounts e);
-    once = calls.once b (next_of (waits_next g payload.facts.key)) queued outs posted (ap (waits_at b.program) gone ∙ sym (none_waits given.last));
-  })
+    limit = ap (λ (c : Controller). c.contexts.limit) hands.same ∙ y.limit;
+    requests = queued.room;
+    room = hands.room ∙ y.room;
+  }
     where
       y : Behind old g id payload.facts.key t.asks ns
-      y = ended_behind mid g g.contexts g.epochs given.same given.others x
+      y = ended_behind mid g g.contexts g.epochs given.same given.others given.limit x
 
       contexts : b.contexts ≡ g.contexts
       contexts = ap (λ (c : Controller). c.contexts) hands.same
@@ -325,17 +369,42 @@ module _ (old : Controller) (id : Id) (m : Mail) (ns : List Mail) (s : Slots Rec
       queued : IsQueued old.buffer b.buffer (shard_of old.settings payload.facts.key) (items_for id payload.facts.key t.asks)
       queued = subst (λ (c : Controller). IsQueued old.buffer c.buffer (shard_of old.settings payload.facts.key) (items_for id payload.facts.key t.asks)) (sym hands.same) y.queued
 
-  goes_flow : (mid g b : Controller) (fired : Option Fired) → Behind old mid id payload.facts.key t.asks ns → IsGivenUp mid g id more → GoesOn g b payload.facts.key fired → IsFlow b
-  goes_flow mid g b None x given goes = hands_flow mid g b x given goes.1
-  goes_flow mid g b (Some f) x given goes =
-      subst IsFlow (sym goes.1.1.same) (flow_fires goes.0 b payload.facts.key f goes.1.1 goes.1.1.none (hands_flow mid g goes.0 x given goes.1.0))
+      on : FlowsOn old b id payload.facts.key t.asks (next_of (waits_next g payload.facts.key)) m ns was xs
+      on = record {
+        named = has_key (at old.contexts id) calls.there;
+        owned = calls.owned;
+        waited = calls.waited;
+        left = subst (λ (o : Option (Held Record)). Left b id payload.facts.key xs o) (sym gone) (none_waits given.last);
+        others = λ i differ. (λ j. at (contexts j) i) ∙ y.others i differ;
+        program = program;
+        settings = ap (λ (c : Controller). c.settings) hands.same ∙ y.settings;
+        outs = outs;
+        inside = inside;
+        queued = queued;
+        asked = calls.asked;
+        waits = calls.keeps;
+        taken = calls.taken;
+        posted = posted;
+        starts = calls.starts;
+        answers = calls.answers;
+        started = calls.started;
+        owners = λ q differ. ap (λ (p : Part). p.owner) (hands.part.others q differ) ∙ ap (λ (a : Accounts). owner_of a q) y.accounts;
+        owner = λ i differ. ap (λ (p : Part). is_owner i p.owner) hands.part.own ∙ next_owns i (waits_next g payload.facts.key);
+        next = λ i e. comes_next (times_of g.timers payload.facts.key) i
+            (subst (λ (a : Accounts). next_is i (next_of (behind_marks (times_of g.timers payload.facts.key) (waiting_of a payload.facts.key))) ≡ true) y.accounts e);
+        once = calls.once b (next_of (waits_next g payload.facts.key)) queued outs posted (ap (waits_at b.program) gone ∙ sym (none_waits given.last));
+      }
 
-  ends_flow : (mid b : Controller) (gone : Bool) (fired : Option Fired) → Behind old mid id payload.facts.key t.asks ns → EndsBy mid b id more gone fired → IsFlow b
+  goes_flow : (mid g b : Controller) (fired : Option Fired) → Behind old mid id payload.facts.key t.asks ns → IsGivenUp mid g id more → GoesOn g b payload.facts.key fired → Follows old b
+  goes_flow mid g b None x given goes = hands_flow mid g b x given goes.1
+  goes_flow mid g b (Some f) x given goes = follows_fires old goes.0 b payload.facts.key f (hands_flow mid g goes.0 x given goes.1.0) goes.1.1
+
+  ends_flow : (mid b : Controller) (gone : Bool) (fired : Option Fired) → Behind old mid id payload.facts.key t.asks ns → EndsBy mid b id more gone fired → Follows old b
   ends_flow mid b false None x e = waits_flow mid b x e
   ends_flow mid b false (Some f) x e = absurd e
   ends_flow mid b true fired x e = goes_flow mid e.mid b fired x e.given e.goes
 
-  pub call_flow : (b : Controller) (f : Effects) → CallEnds ran b id held t f → IsFlow b
+  pub call_flow : (b : Controller) (f : Effects) → CallEnds ran b id held t f → Follows old b
   call_flow b f e = ends_flow e.mid b f.gone f.fired (done_behind e.mid e.done) e.ends
 
 -- ---- a handler begins
@@ -432,13 +501,16 @@ module _ (old : Controller) (id : Id) (m : Mail) (ns : List Mail) (sound : IsSou
     }
 
   -- behind a start each request that waits stands once on its way, and each owner that hasn't begun is started once
-  pub flow_start : (b : Controller) (f : Effects) → Has old.contexts id (Started taken_from b id f) → IsFlow b
-  flow_start b f x = of (at old.contexts id) refl x
+  pub start_follows : (b : Controller) (f : Effects) → Has old.contexts id (Started taken_from b id f) → Follows old b
+  start_follows b f x = of (at old.contexts id) refl x
     where
-      of : (o : Option (Held Record)) → at old.contexts id ≡ o → IsSomeAnd o (Started taken_from b id f) → IsFlow b
+      of : (o : Option (Held Record)) → at old.contexts id ≡ o → IsSomeAnd o (Started taken_from b id f) → Follows old b
       of None e x = absurd x
       of (Some h) e x = call_flow old id m ns x.contexts h x.begun.payload x.turn [] (asks_in x.turn.asks) sound
           (start_calls h e x.contexts x.begun.payload x.turn x.begun.begins x.begun.paid) b f x.ended
+
+  pub flow_start : (b : Controller) (f : Effects) → Has old.contexts id (Started taken_from b id f) → IsFlow b
+  flow_start b f x = (start_follows b f x).flow
 
 -- ---- it is given an answer
 
@@ -526,14 +598,17 @@ module _ (old : Controller) (id : Id) (slot : ℕ) (answer : Answer) (ns : List 
             (λ e. e)
 
   -- behind an answer, too
-  pub flow_reply : (b : Controller) (f : Effects) → Has old.contexts id (Replied taken_out b id slot answer f) → IsFlow b
-  flow_reply b f x = of (at old.contexts id) refl x
+  pub reply_follows : (b : Controller) (f : Effects) → Has old.contexts id (Replied taken_out b id slot answer f) → Follows old b
+  reply_follows b f x = of (at old.contexts id) refl x
     where
-      of : (o : Option (Held Record)) → at old.contexts id ≡ o → IsSomeAnd o (Replied taken_out b id slot answer f) → IsFlow b
+      of : (o : Option (Held Record)) → at old.contexts id ≡ o → IsSomeAnd o (Replied taken_out b id slot answer f) → Follows old b
       of None e x = absurd x
       of (Some h) e x = code h.payload.machine refl x.resumed.resumed
         where
-          code : (c : Option Machine) → h.payload.machine ≡ c → ResumedAt old.program h.payload x.resumed.payload c slot answer x.turn → IsFlow b
+          code : (c : Option Machine) → h.payload.machine ≡ c → ResumedAt old.program h.payload x.resumed.payload c slot answer x.turn → Follows old b
           code None d y = absurd y
           code (Some c) d y = call_flow old id (mail.Reply id slot answer) ns x.contexts h x.resumed.payload x.turn (waiting (machine.control_of old.program c))
               (replaced slot (asks_in x.turn.asks) (waiting (machine.control_of old.program c))) sound (reply_calls h e c d x.contexts x.resumed.payload x.turn y x.resumed.paid) b f x.ended
+
+  pub flow_reply : (b : Controller) (f : Effects) → Has old.contexts id (Replied taken_out b id slot answer f) → IsFlow b
+  flow_reply b f x = (reply_follows b f x).flow

@@ -23,6 +23,7 @@ use Rattle.ax_core.specs.declared.controller.Controller.{Controller}
 use Rattle.ax_core.specs.Contexts.{same_id, waits_at}
 use Rattle.ax_core.specs.Flow.{shard_of, one_if, queued_as, named_as, answers_as, answered_as, starts_as, started_as, in_queues, in_outs, waits_for, is_owner, is_to_start, OwnsBegun, OwnsOnceBegun, QueuedStands, OutStands, out_of, IsFlow}
 use Rattle.ax_core.specs.Callbacks.{items_for, IsQueued, with_start}
+use Rattle.ax_core.specs.Events.{key_in, KeysStay}
 use Rattle.ax_core.proofs.AskLemmas.{shards_stay}
 use Rattle.ax_core.proofs.CalledLemmas.{others_queued, same_outs, post_answered}
 use Rattle.ax_core.proofs.Flows.{same_self, same_is, other_ids}
@@ -246,6 +247,23 @@ module _ (old new : Controller) (id : Id) (key : Key) (asks : List Ask) (n : Nex
       let stands : OutStands old place (at old.contexts id) = subst (λ (j : Id). OutStands old place (at old.contexts j)) (sym it) (flow.out place name was) in
       subst (λ (j : Id). OutStands new place (at new.contexts j)) it (own_out place name.slot some (at old.contexts id) (at new.contexts id) refl h.named h.left stands))
       (λ x. subst (λ (o : Option (Held Record)). OutStands new place o) (sym (h.others name.id (other_ids id name.id x))) (other_out place (at old.contexts name.id) (flow.out place name was)))
+
+  -- each request that is out is of its key still
+  own_key : (s : ℕ) → 1 ≤ in_outs new id s → (o p : Option (Held Record)) → waits_at new.program p ≡ waits_at new.program (at new.contexts id) → KeyIn key o → Left new id key xs p → key_in p ≡ key_in o
+  own_key s some None p same named left = absurd named
+  own_key s some (Some a) None same named left =
+      let none : one_if (waits_for (waits_at new.program (at new.contexts id)) s) ≡ 0 = ap (λ (ys : List Asked). one_if (waits_for ys s)) (sym same) in
+      absurd (omega (arith, some, none, h.once s))
+  own_key s some (Some a) (Some b) same named left = left.named ∙ sym named
+
+  pub keys_on : KeysStay old new
+  keys_on place name c = by_cases (same_id id name.id)
+      (λ x.
+      let it : id ≡ name.id = same_is id name.id x in
+      let some : 1 ≤ in_outs new id name.slot =
+      subst (λ (n : ℕ). 1 ≤ n) (sym (same_outs old new id key (shard_of old.settings key) asks h.inside h.queued h.outs id name.slot)) (subst (λ (j : Id). 1 ≤ in_outs old j name.slot) (sym it) (in_outs_there old place name c)) in
+      subst (λ (j : Id). key_in (at new.contexts j) ≡ key_in (at old.contexts j)) it (own_key name.slot some (at old.contexts id) (at new.contexts id) refl h.named h.left))
+      (λ x. ap key_in (h.others name.id (other_ids id name.id x)))
 
   -- ---- all of it
 
