@@ -44,7 +44,6 @@ impl Controller {
         ensures sound { OnOk result (IsSound self.new) }
         ensures same { OnOk result (SameRules self.old self.new) }
         ensures outs { OnOk result (self.new.outs ≡ self.old.outs) }
-        ensures keys { OnOk result (KeysStay self.old self.new) }
         ensures event { IfOk result (λ f. (m : MachineControl) → StandsFor self.old m → Runs self.old self.new f m) }
     {
         match self.mails.take() {
