@@ -78,7 +78,7 @@ true_false e = cc e
 
 -- a key's shard is one of all
 pub shard_inside : (s : Settings) (key : Key) → InRange s → shard_of s key < s.shards
-shard_inside s key r = index_below (group key s.groups) s.groups s.shards r.shards.0.0 r.shards.1.0 (mod_below (spread (hash_of key)) s.groups r.shards.0.0)
+shard_inside s key r = index_below (group key s.groups) s.groups s.shards r.shards.0.0 r.shards.1 (mod_below (spread (hash_of key)) s.groups r.shards.0.0)
 
 -- ---- the owner of a key, and the row that comes next
 
@@ -553,21 +553,23 @@ module _ (old : Controller) (id : Id) (slot : ℕ) (answer : Answer) (ns : List 
     -- it waits for as many requests as it has references
     record Runs : Type 0 where
       count : h.count ≡ length (slots (machine.control_of old.program code))
-      sound : machine.IsSound old.program code
+      holds : machine.IsSound old.program code
 
     runs : Runs
     runs = of owner_held.context.stage (subst (λ (o : Option Machine). StageStands old.program old.mails.mails id o owner_held.context.stage) begun owner_held.stands.stage) owner_held.stands.count
       where
         of : (st : Stage) → StageStands old.program old.mails.mails id (Some code) st → h.count ≡ references st → Runs
         of Unbegun x e = absurd x
-        of (Begun r) x e = record { count = e ∙ ap (λ (c : Control). length (slots c)) (sym x.control); sound = x.sound }
+        of (Begun r) x e = record { count = e ∙ ap (λ (c : Control). length (slots c)) (sym x.control); holds = x.sound }
 
     differ_at : (c : Machine) → machine.IsSound old.program c → Differ (map (λ (a : Asked). a.slot) (waiting (machine.control_of old.program c)))
     differ_at c s = subst Differ (slots_waiting (machine.control_of old.program c)) (split_differ (machine.control_of old.program c) s.split)
 
     no_start_left : started_as id ns ≡ 0
-    no_start_left = ap (started_as id) (sym taken) ∙ sound.flow.starts id ∙ ap (λ (o : Option (Held Record)). one_if (is_to_start old id o)) there
-        ∙ ap (λ (o : Option Machine). one_if (is_none o && is_owner id (owner_of old.accounts h.payload.facts.key))) begun
+    no_start_left =
+        let sum : 0 + started_as id ns ≡ 0 = ap (started_as id) (sym taken) ∙ sound.flow.starts id ∙ ap (λ (o : Option (Held Record)). one_if (is_to_start old id o)) there
+        ∙ ap (λ (o : Option Machine). one_if (is_none o && is_owner id (owner_of old.accounts h.payload.facts.key))) begun in
+        omega (arith, sum)
 
     reply_calls : (s : Slots Record) (payload : Record) (t : Turn) → Resumed old.program h.payload payload code slot answer t → IsPaid old.contexts s id payload
         → CallsAt old id (mail.Reply id slot answer) ns s h payload t (waiting (machine.control_of old.program code)) (replaced slot (asks_in t.asks) (waiting (machine.control_of old.program code)))
@@ -588,7 +590,7 @@ module _ (old : Controller) (id : Id) (slot : ℕ) (answer : Answer) (ns : List 
       started = no_start_left;
       once = λ c n queued outs posted waits. once_given old c id payload.facts.key (shard_of old.settings payload.facts.key) t.asks n slot answer ns
           (subst (λ (k : ℕ). shard_of old.settings payload.facts.key < k) (sym sound.flow.shards.0) (shard_inside old.settings payload.facts.key sound.ranges))
-          queued outs taken posted (same_self id) (waiting (machine.control_of old.program code)) g.rise (differ_at code runs.sound)
+          queued outs taken posted (same_self id) (waiting (machine.control_of old.program code)) g.rise (differ_at code runs.holds)
           (subst (λ (ys : List Asked). Differ (map (λ (a : Asked). a.slot) ys)) g.asks (differ_at g.after g.sound)) waits_here waited_for waits (sound.flow.once id);
     }
       where

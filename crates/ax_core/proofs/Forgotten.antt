@@ -186,8 +186,7 @@ module _ (a : Controller) (flow : IsFlow a) (rs : List Reply) (out : IsBatchOut 
       (λ t first last is. at (record { shard = t; before = first; behind = last; there = is }))
     where
       at : (other : IsBatchOut a rs) → b.outs.items ≡ set a.outs.items other.shard (other.before ++ other.behind)
-      at other = left_out a flow rs other x rest e (out_of a out.shard) place (ap (out_of a) (sym (there out) ∙ there other))
-          (subst (λ (t : ℕ). IsPlaceOf (out_of a t) (name_of x) place) (sym (there out) ∙ there other) found) b s ns (there other) n o
+      at other = left_out a flow rs other x rest e (out_of a out.shard) place (ap (out_of a) (sym (there out) ∙ there other)) found b s ns (there other) n o
 
 pub cons_of : (xs rs : List Reply) (x : Reply) → xs ≡ rs → 0 < length xs → x ≡ get_or xs 0 x → rs ≡ x ∷ drop 1 rs
 cons_of [] rs x s h e = absurd (omega arith)
