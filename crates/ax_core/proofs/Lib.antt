@@ -4,6 +4,7 @@ pub mod Flows
 pub mod Sends
 pub mod Sent
 pub mod Begins
+pub mod Conditions
 pub mod Counting
 pub mod Waits
 pub mod Owners
@@ -11,8 +12,10 @@ pub mod AskLemmas
 pub mod AskedLemmas
 pub mod BatchLemmas
 pub mod CallLemmas
+pub mod CallRooms
 pub mod CalledLemmas
 pub mod Deliveries
+pub mod Ends
 pub mod EventLemmas
 pub mod Forgotten
 pub mod Frames
