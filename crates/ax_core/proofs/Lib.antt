@@ -40,3 +40,7 @@ pub mod Enters
 pub mod Numbers
 pub mod Rows
 pub mod Taken
+pub mod KeysStay
+pub mod Replaced
+pub mod CalledFlow
+pub mod CallFlows
