@@ -13,6 +13,7 @@ pub mod BatchLemmas
 pub mod CallLemmas
 pub mod Called
 pub mod CalledLemmas
+pub mod CalledStands
 pub mod Deliveries
 pub mod EventLemmas
 pub mod Forgotten
