@@ -170,7 +170,7 @@ once_others old new id key shard asks n m ns quiet there queued outs taken poste
 
 -- the same where an answer was handed over
 
-post_answered : (n : Next) (ns : List Mail) (id : Id) (slot : ℕ) → answered_as id slot (with_start n ns) ≡ answered_as id slot ns
+pub post_answered : (n : Next) (ns : List Mail) (id : Id) (slot : ℕ) → answered_as id slot (with_start n ns) ≡ answered_as id slot ns
 post_answered next.Free ns id slot = refl
 post_answered (next.Row j) ns id slot = start_answered ns j id slot
 post_answered (next.Mark e w fired) ns id slot = refl

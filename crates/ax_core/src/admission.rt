@@ -7,7 +7,7 @@ ghost use Rattle.ax_execution.specs.Machine.{Admit};
 ghost use Rattle.ax_execution.specs.MachineControls.{MachineControl};
 ghost use Rattle.ax_core.specs.May.{may_admit};
 ghost use Rattle.ax_core.specs.Sound.{StandsFor, IsSound};
-ghost use Rattle.ax_core.specs.Events.{SameRules, Makes, MayAdmitOn};
+ghost use Rattle.ax_core.specs.Events.{SameRules, KeysStay, Makes, MayAdmitOn};
 ghost use Rattle.ax_core.specs.Admissions.{row_record, start_mails, TakesIn};
 
 use crate::controller::Controller;
@@ -51,6 +51,7 @@ impl Controller {
         ensures sound { OnOk result (IsSound self.new) }
         ensures same { OnOk result (SameRules self.old self.new) }
         ensures outs { OnOk result (self.new.outs ≡ self.old.outs) }
+        ensures keys { OnOk result (KeysStay self.old self.new) }
         ensures event { IfOk result (λ n. (m : MachineControl) → StandsFor self.old m → Makes self.old self.new (Admit n key time values) m) }
     {
         sizes_law(&self.epochs);

@@ -1,5 +1,5 @@
 //! Callbacks run.
-ghost use Rattle.std.specs.Prelude.{◌≡◌, ◌≤◌, ◌<◌, ◌+◌, ◌∷◌, [], length, IsSome, IfOk, OnOk};
+ghost use Rattle.std.specs.Prelude.{◌≡◌, ◌≤◌, ◌<◌, ◌+◌, ◌∷◌, [], true, length, IsSome, IfOk, OnOk};
 ghost use Rattle.ax_text.specs.Run.{time_after, times_after};
 ghost use Rattle.ax_time.specs.Timers.{PutsTimes, times_of};
 ghost use Rattle.ax_context.specs.Slots.{Has, IsLive, live_count};
@@ -7,21 +7,27 @@ ghost use Rattle.ax_buffer.specs.Buffer.{total};
 ghost use Rattle.ax_account.specs.Parts.{next_of, taken_up};
 ghost use Rattle.ax_account.specs.Accounts.{waiting_of, owner_of, Changes};
 ghost use Rattle.ax_execution.specs.Contexts as times;
+ghost use Rattle.ax_execution.specs.MachineControls.{MachineControl};
+ghost use Rattle.ax_core.specs.declared.effects.Ran.TheVariants as ran;
 ghost use Rattle.ax_core.specs.May.{has_mail};
+ghost use Rattle.ax_core.specs.Sound.{StandsFor, IsSound};
+ghost use Rattle.ax_core.specs.Events.{SameRules, Runs};
 ghost use Rattle.ax_core.specs.Callbacks.{Begins, WaitsAt, ResumedAt, HasBegun, HasResumed, item_for, items_for, IsHeld, IsQueued, ending, behind_marks, ended, all_left, AllMayLeave, OthersIdle, row_epochs, with_start, waits_next, HandsOver, GoesOn};
+ghost use Rattle.ax_core.specs.Calls.{CallEnds, IsReady, MayStart, MayReply, Started, Replied};
 
 use crate::controller::Controller;
-use crate::effects::Fired;
+use crate::effects::{Effects, Fired, Ran};
 use crate::record::Record;
 use ax_account::{Accounting, MOST_FIRINGS, Next};
 use ax_base::{Duplicate, NoMemory};
 use ax_buffer::{Item, RequestBuffer};
-use ax_context::{Contexts, Id};
+use ax_context::{Contexts, Id, Released};
 use ax_future::{Ask, Asks, Handler, Machine, TimerOp, Turn};
 use ax_keys::Key;
-use ax_lang::Program;
+use ax_lang::{Program, program_is_accepted};
 use ax_mailbox::{Mail, Mailbox};
 use ax_state::Answer;
+use ax_time::epoch_laws::sizes_law;
 use ax_time::{Epochs, Timers};
 use std::alloc::Global;
 
@@ -46,6 +52,8 @@ impl Controller {
         ensures outs { OnOk result (self.new.outs ≡ self.old.outs) }
         ensures event { IfOk result (λ f. (m : MachineControl) → StandsFor self.old m → Runs self.old self.new f m) }
     {
+        program_is_accepted();
+        sizes_law(&self.epochs);
         match self.mails.take() {
             Some(Mail::Start { id } | Mail::Fire { id }) => self.run_start(id),
             Some(Mail::Reply { id, slot, answer }) => self.run_reply(id, slot, answer),

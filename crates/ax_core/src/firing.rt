@@ -8,7 +8,7 @@ ghost use Rattle.ax_account.specs.Accounts.{owner_of, waiting_of, AreSound};
 ghost use Rattle.ax_execution.specs.MachineControls.{MachineControl};
 ghost use Rattle.ax_core.specs.May.{may_fire};
 ghost use Rattle.ax_core.specs.Sound.{StandsFor, IsSound};
-ghost use Rattle.ax_core.specs.Events.{SameRules, Fires, MayFireOn};
+ghost use Rattle.ax_core.specs.Events.{SameRules, KeysStay, Fires, MayFireOn};
 ghost use Rattle.ax_core.specs.Firings.{FiresAt};
 
 use crate::controller::Controller;
@@ -49,6 +49,7 @@ impl Controller {
         ensures sound { OnOk result (IsSound self.new) }
         ensures same { OnOk result (SameRules self.old self.new) }
         ensures outs { OnOk result (self.new.outs ≡ self.old.outs) }
+        ensures keys { OnOk result (KeysStay self.old self.new) }
         ensures event { IfOk result (λ f. (m : MachineControl) → StandsFor self.old m → Fires self.old self.new f m) }
     {
         program_is_accepted();
