@@ -13,6 +13,7 @@ pub mod AskedLemmas
 pub mod BatchLemmas
 pub mod CallLemmas
 pub mod CallRooms
+pub mod Called
 pub mod CalledLemmas
 pub mod Deliveries
 pub mod Ends
