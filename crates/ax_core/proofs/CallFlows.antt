@@ -1,5 +1,5 @@
 -- The flow of the requests where a handler begins, and where it is given an answer.
-use Rattle.std.proofs.Common.{◌≡◌, ◌≢◌, ℕ, ◌+◌, ◌*◌, ◌≤◌, ◌<◌, ◌%◌, nat_eq, ℤ, Bool, true, false, ◌&&◌, List, [], ◌∷◌, map, length, Option, Some, None, IsSomeAnd, is_none, refl, sym, ap, ◌∙◌, subst, Contains, cond, arith, eqb-true}
+use Rattle.std.proofs.Common.{◌≡◌, ℕ, ◌+◌, ◌*◌, ◌≤◌, ◌<◌, nat_eq, ℤ, Bool, true, false, ◌&&◌, List, [], ◌∷◌, map, length, Option, Some, None, IsSomeAnd, is_none, refl, sym, ap, ◌∙◌, subst, Contains, cond, arith, eqb-true}
 use Rattle.std.specs.Str.{bytes_eq}
 use Rattle.std.specs.List.{list_any, slice_index_or}
 use Rattle.std.proofs.lemmas.Bool.{eq-eqb}
@@ -13,7 +13,7 @@ use Rattle.ax_text.specs.Exprs.{Facts}
 use Rattle.ax_text.specs.Prints.{has}
 use Rattle.ax_text.specs.Programs.{program_width}
 use Rattle.ax_text.specs.Controls.{Ask' as Asked, Control, slots, waiting, replaced}
-use Rattle.ax_text.specs.Underway.{SlotsRise, Differ}
+use Rattle.ax_text.specs.Underway.{Differ}
 use Rattle.ax_text.proofs.Asked.{slots_waiting}
 use Rattle.ax_text.proofs.Slots.{split_differ}
 use Rattle.ax_lang.specs.Shown.{shown_program}
@@ -24,7 +24,6 @@ use Rattle.ax_future.specs.declared.machine.Machine.{Machine}
 use Rattle.ax_future.specs.Machines as machine
 use Rattle.ax_future.specs.Talks.{asks_in}
 use Rattle.ax_machine.specs.Entries.{Key}
-use Rattle.ax_buffer.specs.declared.items.Item.{Item}
 use Rattle.ax_context.specs.declared.id.Id.{Id}
 use Rattle.ax_context.specs.declared.contexts.Context.{Context as Held}
 use Rattle.ax_context.specs.Slots.{Slots, at, Has, IsPaid, OthersStay}
@@ -38,9 +37,8 @@ use Rattle.ax_mailbox.specs.declared.mail.Mail.{Mail}
 use Rattle.ax_mailbox.specs.declared.mail.Mail.TheVariants as mail
 use Rattle.ax_time.specs.Epochs.{Book}
 use Rattle.ax_time.specs.Timers.{times_of}
-use Rattle.ax_execution.specs.Contexts.{Running, Stage, Unbegun, Begun, Context, row_context, Waiting, Row, Mark}
+use Rattle.ax_execution.specs.Contexts.{Stage, Unbegun, Begun, Context, row_context, Waiting, Row, Mark}
 use Rattle.ax_execution.specs.Counts.{references, one_at, rows_numbered}
-use Rattle.ax_execution.specs.MachineControls.{MachineControl}
 use Rattle.ax_execution.specs.Reached.{IsOrderly}
 use Rattle.ax_execution.proofs.ReachedOrderly.{reached_orderly}
 use Rattle.ax_execution.proofs.Upto.{by_cases}
@@ -57,7 +55,7 @@ use Rattle.ax_core.specs.Sound.{InRange, rules_of, HasRooms, IsSound}
 use Rattle.ax_core.specs.Events.{SameRules, KeysStay}
 use Rattle.ax_core.specs.Firings.{FiresAt}
 use Rattle.ax_core.specs.Callbacks.{with_machine, Begins, Resumed, ResumedAt, items_for, IsQueued, with_start, behind_marks, fires, waits_next, HandsOver, GoesOn}
-use Rattle.ax_core.specs.Calls.{IsDone, WaitsOn, IsGivenUp, GivesUp, EndsBy, CallEnds, Started, Replied}
+use Rattle.ax_core.specs.Calls.{IsDone, WaitsOn, IsGivenUp, EndsBy, CallEnds, Started, Replied}
 use Rattle.ax_core.proofs.AskLemmas.{none_left}
 use Rattle.ax_core.proofs.CalledFlow.{Left, FlowsOn, flow_on, keys_on}
 use Rattle.ax_core.proofs.CalledLemmas.{AnswersNothing, once_begun, once_given}

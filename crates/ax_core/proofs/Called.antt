@@ -1,8 +1,8 @@
 -- A callback of the context that owns a key, as an event of the control.
-use Rattle.std.proofs.Common.{◌≡◌, ◌≢◌, ℕ, ◌+◌, ◌≤◌, ℤ, nat_eq, Bool, true, false, ◌&&◌, List, [], ◌∷◌, map, length, Option, Some, None, is_none, IsSomeAnd, refl, sym, ap, ◌∙◌, subst, arith}
+use Rattle.std.proofs.Common.{◌≡◌, ◌≢◌, ℕ, ◌+◌, nat_eq, Bool, true, false, ◌&&◌, List, ◌∷◌, length, Option, Some, None, is_none, refl, sym, ap, ◌∙◌, subst, arith}
 use Rattle.std.proofs.lemmas.Bool.{eq-eqb}
 use Rattle.ax_text.specs.declared.vocabulary.Answer.{Answer}
-use Rattle.ax_text.specs.Controls.{Ask' as Asked, Answers, Turn, slots, waiting}
+use Rattle.ax_text.specs.Controls.{Answers, Turn, slots}
 use Rattle.ax_text.specs.Functions.{upd}
 use Rattle.ax_text.specs.Prints.{has}
 use Rattle.ax_text.specs.Run.{times_after}
@@ -14,12 +14,12 @@ use Rattle.ax_future.specs.Machines as machine
 use Rattle.ax_machine.specs.Entries.{Key}
 use Rattle.ax_context.specs.declared.id.Id.{Id}
 use Rattle.ax_context.specs.declared.contexts.Context.{Context as Held}
-use Rattle.ax_context.specs.Slots.{Slots, at, IsPaid}
-use Rattle.ax_account.specs.Accounts.{owner_of, part_of}
+use Rattle.ax_context.specs.Slots.{Slots, at}
+use Rattle.ax_account.specs.Accounts.{owner_of}
 use Rattle.ax_mailbox.specs.declared.mail.Mail.{Mail}
 use Rattle.ax_mailbox.specs.declared.mail.Mail.TheVariants as mail
 use Rattle.ax_time.specs.Timers.{times_of}
-use Rattle.ax_execution.specs.Contexts.{Running, Stage, Unbegun, Begun, Context}
+use Rattle.ax_execution.specs.Contexts.{Stage, Unbegun, Begun, Context}
 use Rattle.ax_execution.specs.Counts.{references}
 use Rattle.ax_execution.specs.Turns.{begins, gives, effects_of}
 use Rattle.ax_execution.specs.ControlTurns.{called_back_on}
@@ -34,7 +34,7 @@ use Rattle.ax_core.specs.Contexts.{same_id, answer_in, StageStands, IsContext, C
 use Rattle.ax_core.specs.Keys.{OwnerStands}
 use Rattle.ax_core.specs.Flow.{one_if, starts_as, started_as, answered_as, in_queues, in_outs, waits_for, is_owner, is_to_start, IsFlow}
 use Rattle.ax_core.specs.Sound.{rules_of, StandsFor}
-use Rattle.ax_core.specs.Callbacks.{with_machine, Begins, Resumed, ResumedAt, HasBegun, HasResumed}
+use Rattle.ax_core.specs.Callbacks.{with_machine, Resumed, ResumedAt, HasBegun, HasResumed}
 use Rattle.ax_core.proofs.Flows.{same_self, same_is}
 use Rattle.ax_core.proofs.Open.{and_parts}
 use Rattle.ax_core.proofs.Owners.{RunsAt, runs_at}
@@ -192,8 +192,8 @@ calls_start a m first ns id h s t flow x taken starts here b =
       left = left;
       sound = b.begins.sound;
       goes = ap (λ (q : KeyControl). calls_back_on key q m) (start_is (m.controls key) own.context own.owner (shown_program a.program) stage
-      ∙ (λ i. called_back_on own.context (begins (shown_program a.program) own.context.job) unanswered (m.controls key).waiting
-      (times_after (left i).talk.ops (sym (x.stands.keys key).times i))));
+          ∙ (λ i. called_back_on own.context (begins (shown_program a.program) own.context.job) unanswered (m.controls key).waiting
+          (times_after (left i).talk.ops (sym (x.stands.keys key).times i))));
       outcome = ap (outcome_of_effects key) (starts_are (m.controls key) own.context own.owner (shown_program a.program) stage);
       count = ap (λ (n : ℕ). n + length t.asks) one ∙ more;
       given = λ slot. none_answers ns id slot (start_unanswered a first ns id h flow taken starts here it.unbegun slot);
@@ -265,8 +265,8 @@ module _ (a : Controller) (m : MachineControl) (ns : List Mail) (id : Id) (slot 
         left = left;
         sound = g.sound;
         goes = ap (λ (q : KeyControl). calls_back_on key q m) (deliver_is (m.controls key) runs.context runs.owner runs.running slot answer runs.stage there
-        ∙ (λ i. called_back_on runs.context (gives runs.context.job runs.running slot answer) (upd runs.running.answers slot None) (m.controls key).waiting
-        (times_after (left i).talk.ops (sym (x.stands.keys key).times i))));
+            ∙ (λ i. called_back_on runs.context (gives runs.context.job runs.running slot answer) (upd runs.running.answers slot None) (m.controls key).waiting
+            (times_after (left i).talk.ops (sym (x.stands.keys key).times i))));
         outcome = ap (outcome_of_effects key) (gives_are (m.controls key) runs.context runs.owner runs.running slot answer runs.stage there);
         count = ap (λ (n : ℕ). n + length t.asks) was ∙ more;
         given = given_answers ns id slot answer runs.running.answers (same_self id) before it.once;

@@ -1,5 +1,5 @@
 -- The flow of the requests behind a callback: each that waits stands once on its way, and each owner that hasn't begun is started once.
-use Rattle.std.proofs.Common.{◌≡◌, ◌≢◌, ◌⊎◌, ℕ, zero, suc, ◌+◌, ◌≤◌, ◌<◌, Bool, true, false, ◌&&◌, List, [], ◌∷◌, ◌++◌, length, get_or, set, Option, Some, None, is_none, refl, sym, ap, ap₂, ◌∙◌, subst, inl, inr, Contains, arith}
+use Rattle.std.proofs.Common.{◌≡◌, ◌≢◌, ◌⊎◌, ℕ, zero, suc, ◌+◌, ◌≤◌, ◌<◌, Bool, true, false, ◌&&◌, List, [], ◌∷◌, ◌++◌, length, get_or, Option, Some, None, is_none, refl, sym, ap, ap₂, ◌∙◌, subst, inl, inr, Contains, arith}
 use Rattle.std.proofs.lemmas.List.Elements.{Contains-append_cases}
 use Rattle.ax_text.specs.declared.vocabulary.Request.{Request}
 use Rattle.ax_text.specs.Controls.{Ask' as Asked}
@@ -8,7 +8,7 @@ use Rattle.ax_future.specs.declared.machine.Machine.{Machine}
 use Rattle.ax_future.specs.Talks.{asks_in}
 use Rattle.ax_machine.specs.Entries.{Key}
 use Rattle.ax_buffer.specs.declared.items.Item.{Item}
-use Rattle.ax_buffer.specs.Buffer.{queue_of, total}
+use Rattle.ax_buffer.specs.Buffer.{queue_of}
 use Rattle.ax_buffer.proofs.ListLemmas.{at_set, total-at}
 use Rattle.ax_context.specs.declared.id.Id.{Id}
 use Rattle.ax_context.specs.declared.contexts.Context.{Context as Held}
@@ -29,7 +29,7 @@ use Rattle.ax_core.proofs.CalledLemmas.{others_queued, same_outs, post_answered}
 use Rattle.ax_core.proofs.Flows.{same_self, same_is, other_ids}
 use Rattle.ax_core.proofs.Forgotten.{named_there}
 use Rattle.ax_core.proofs.Frames.{KeyIn}
-use Rattle.ax_core.proofs.Owners.{none_some, queued_there}
+use Rattle.ax_core.proofs.Owners.{queued_there}
 use Rattle.ax_core.proofs.Replaced.{IsOfAsks, of_asks, contains_none}
 use Rattle.ax_core.proofs.StartLemmas.{next_is, IsUnbegunOf, starts_others, starts_own}
 

@@ -1,6 +1,5 @@
 -- What is out is of the key that it was of.
 use Rattle.std.proofs.Common.{◌≡◌, ℕ, Option, Some, None, ap, ◌∙◌}
-use Rattle.ax_machine.specs.Entries.{Key}
 use Rattle.ax_context.specs.declared.id.Id.{Id}
 use Rattle.ax_context.specs.declared.contexts.Context.{Context as Held}
 use Rattle.ax_context.specs.Slots.{at, OthersStay}

@@ -15,6 +15,8 @@ pub mod CallLemmas
 pub mod CallRooms
 pub mod Called
 pub mod CalledLemmas
+pub mod CalledRuns
+pub mod CalledStands
 pub mod Deliveries
 pub mod Ends
 pub mod EventLemmas

@@ -1,8 +1,7 @@
 -- The requests that wait behind an answer, and those that a callback asks.
-use Rattle.std.proofs.Common.{◌≡◌, ◌⊎◌, ℕ, zero, suc, ◌<◌, nat_eq, Bool, true, false, List, [], ◌∷◌, ◌++◌, map, length, get_or, refl, sym, ap, ◌∙◌, subst, inl, inr, Contains, arith, eqb-true}
+use Rattle.std.proofs.Common.{◌≡◌, ◌⊎◌, ℕ, zero, suc, ◌<◌, nat_eq, true, false, List, [], ◌∷◌, ◌++◌, map, length, get_or, refl, sym, ap, ◌∙◌, subst, inl, inr, Contains, arith}
 use Rattle.std.proofs.lemmas.Bool.{cond-true, cond-false}
 use Rattle.std.proofs.lemmas.List.Elements.{Contains-append_left, Contains-append_right}
-use Rattle.ax_text.specs.Prints.{has}
 use Rattle.ax_text.specs.Controls.{Ask' as Asked, replaced}
 use Rattle.ax_future.specs.declared.callback.Ask.{Ask}
 use Rattle.ax_future.specs.Talks.{ask_in, asks_in}
