@@ -60,6 +60,7 @@ use Rattle.ax_core.proofs.AskLemmas.{none_left}
 use Rattle.ax_core.proofs.CalledFlow.{Left, FlowsOn, flow_on, keys_on}
 use Rattle.ax_core.proofs.CalledLemmas.{AnswersNothing, once_begun, once_given}
 use Rattle.ax_core.proofs.CallLemmas.{begun_references, given_references}
+use Rattle.ax_core.proofs.Called.{IsStartOf}
 use Rattle.ax_core.proofs.EventLemmas.{no_row_numbered}
 use Rattle.ax_core.proofs.FiresFlow.{flow_fires}
 use Rattle.ax_core.proofs.Flows.{same_self, same_is}
@@ -407,18 +408,12 @@ module _ (old : Controller) (id : Id) (m : Mail) (ns : List Mail) (s : Slots Rec
 
 -- ---- a handler begins
 
--- a mail that starts a context
-abbrev pub IsStart : Id → Mail → Type 0
-IsStart id (mail.Start i) = i ≡ id
-IsStart id (mail.Fire i) = i ≡ id
-IsStart id (mail.Reply i slot a) = ⊥
-
-start_quiet : (id : Id) (m : Mail) → IsStart id m → AnswersNothing m
+start_quiet : (id : Id) (m : Mail) → IsStartOf id m → AnswersNothing m
 start_quiet id (mail.Start i) e j slot = refl
 start_quiet id (mail.Fire i) e j slot = refl
 start_quiet id (mail.Reply i s a) e j slot = absurd e
 
-start_as : (id : Id) (m : Mail) → IsStart id m → (j : Id) → starts_as j m ≡ one_if (same_id id j)
+start_as : (id : Id) (m : Mail) → IsStartOf id m → (j : Id) → starts_as j m ≡ one_if (same_id id j)
 start_as id (mail.Start i) e j = ap (λ (k : Id). one_if (same_id k j)) e
 start_as id (mail.Fire i) e j = ap (λ (k : Id). one_if (same_id k j)) e
 start_as id (mail.Reply i s a) e j = absurd e
@@ -445,7 +440,7 @@ one_reference p ms id None Unbegun e x = refl
 one_reference p ms id None (Begun r) e x = absurd x
 one_reference p ms id (Some c) st e x = absurd (cc e)
 
-module _ (old : Controller) (id : Id) (m : Mail) (ns : List Mail) (sound : IsSound old) (taken : old.mails.mails ≡ m ∷ ns) (start : IsStart id m) where
+module _ (old : Controller) (id : Id) (m : Mail) (ns : List Mail) (sound : IsSound old) (taken : old.mails.mails ≡ m ∷ ns) (start : IsStartOf id m) where
   abbrev taken_from : Controller
   taken_from = record old { mails = record { mails = ns; room = old.mails.room } }
 
