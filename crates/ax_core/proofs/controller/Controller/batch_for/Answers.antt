@@ -1,11 +1,15 @@
-use Rattle.std.proofs.Common.{◌≡◌, ◌+◌, ◌<◌, ◌++◌, List, length, take, set, refl, sym, ap, subst, arith}
+use Rattle.std.proofs.Common.{◌≡◌, ◌+◌, ◌<◌, ◌++◌, List, length, take, set, true, refl, sym, ap, subst, arith}
+use Rattle.std.specs.List.{All}
 use Rattle.std.specs.Vec.{with_item}
+use Rattle.ax_text.specs.Suits.{fits_in}
+use Rattle.ax_lang.specs.Shown.{shown_kinds}
 use Rattle.ax_buffer.specs.declared.items.Item.{Item}
 use Rattle.ax_buffer.specs.Buffer.{queue_of, total}
 use Rattle.ax_core.specs.declared.controller.Controller.{Controller}
 use Rattle.ax_core.specs.Flow.{out_of}
 use Rattle.ax_core.specs.Events.{AsksAll, names_in, OfKeys}
 use Rattle.ax_core.proofs.BatchLemmas.{outs_put, there_too, sound_out, stands_out, asks_batch, of_keys, of_keys_in}
+use Rattle.ax_core.proofs.BatchFits.{fit_batch}
 use Rattle.ax_core.proofs.controller.Controller.batch_for.Goals as goal
 
 pub returns-clause-sound : goal.returns-clause-sound
@@ -48,3 +52,9 @@ returns-clause-keys_of c =
     let b : Controller = record c.args.self.now { buffer = c.take_batch.new.self; outs = with_item c.args.self.now.outs c.args.shard c.put_names.new.out } in
     let same : c.in_ok-batch.batch ≡ take c.args.max (queue_of a.buffer c.args.shard) = c.in_ok-batch.ensures.batch in
     subst (λ (is : List Item). OfKeys b is) (sym same) (of_keys_in a b refl (take c.args.max (queue_of a.buffer c.args.shard)) (of_keys a c.requires.sound.flow c.args.shard c.args.max))
+
+pub returns-clause-fit : goal.returns-clause-fit
+returns-clause-fit c =
+    let a : Controller = c.args.self.now in
+    subst (All (λ i. fits_in (shown_kinds a.program) i.request ≡ true)) (sym c.in_ok-batch.ensures.batch)
+    (fit_batch a c.requires.sound.control c.requires.sound.flow c.requires.sound.stands.stands c.args.shard c.args.max)
