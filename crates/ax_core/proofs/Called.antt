@@ -192,8 +192,8 @@ calls_start a m first ns id h s t flow x taken starts here b =
       left = left;
       sound = b.begins.sound;
       goes = ap (λ (q : KeyControl). calls_back_on key q m) (start_is (m.controls key) own.context own.owner (shown_program a.program) stage
-      ∙ (λ i. called_back_on own.context (begins (shown_program a.program) own.context.job) unanswered (m.controls key).waiting
-      (times_after (left i).talk.ops (sym (x.stands.keys key).times i))));
+          ∙ (λ i. called_back_on own.context (begins (shown_program a.program) own.context.job) unanswered (m.controls key).waiting
+          (times_after (left i).talk.ops (sym (x.stands.keys key).times i))));
       outcome = ap (outcome_of_effects key) (starts_are (m.controls key) own.context own.owner (shown_program a.program) stage);
       count = ap (λ (n : ℕ). n + length t.asks) one ∙ more;
       given = λ slot. none_answers ns id slot (start_unanswered a first ns id h flow taken starts here it.unbegun slot);
@@ -265,8 +265,8 @@ module _ (a : Controller) (m : MachineControl) (ns : List Mail) (id : Id) (slot 
         left = left;
         sound = g.sound;
         goes = ap (λ (q : KeyControl). calls_back_on key q m) (deliver_is (m.controls key) runs.context runs.owner runs.running slot answer runs.stage there
-        ∙ (λ i. called_back_on runs.context (gives runs.context.job runs.running slot answer) (upd runs.running.answers slot None) (m.controls key).waiting
-        (times_after (left i).talk.ops (sym (x.stands.keys key).times i))));
+            ∙ (λ i. called_back_on runs.context (gives runs.context.job runs.running slot answer) (upd runs.running.answers slot None) (m.controls key).waiting
+            (times_after (left i).talk.ops (sym (x.stands.keys key).times i))));
         outcome = ap (outcome_of_effects key) (gives_are (m.controls key) runs.context runs.owner runs.running slot answer runs.stage there);
         count = ap (λ (n : ℕ). n + length t.asks) was ∙ more;
         given = given_answers ns id slot answer runs.running.answers (same_self id) before it.once;

@@ -44,3 +44,4 @@ pub mod KeysStay
 pub mod Replaced
 pub mod CalledFlow
 pub mod CallFlows
+pub mod Orders
