@@ -15,11 +15,14 @@ pub mod CallLemmas
 pub mod CallRooms
 pub mod Called
 pub mod CalledLemmas
+pub mod CalledRuns
+pub mod CalledStands
 pub mod Deliveries
 pub mod Ends
 pub mod EventLemmas
 pub mod Forgotten
 pub mod Frames
+pub mod Fronts
 pub mod GetLemmas
 pub mod GoLemmas
 pub mod HandLemmas
