@@ -1,5 +1,7 @@
 -- The end of a callback, from what its parts do.
-use Rattle.std.proofs.Common.{◌≡◌, ℕ, ◌+◌, ◌≤◌, ◌<◌, ℤ, List, length, true, false, Option, Some, None, is_some, IsSome, IsSomeAnd, refl, sym, ap, ◌∙◌, subst, arith}
+use Rattle.std.proofs.Common.{◌≡◌, ℕ, ◌+◌, ◌≤◌, ◌<◌, ℤ, List, length, true, false, Option, Some, None, is_some, IsSome, IsSomeAnd, Result, IfOk, refl, sym, ap, ◌∙◌, subst, arith}
+use Rattle.ax_base.specs.declared.outside.NoMemory.{NoMemory}
+use Rattle.ax_text.specs.declared.vocabulary.Answer.{Answer}
 use Rattle.ax_text.specs.Run.{times_after}
 use Rattle.ax_future.specs.declared.callback.Turn.{Turn}
 use Rattle.ax_machine.specs.Entries.{Key}
@@ -9,7 +11,7 @@ use Rattle.ax_context.specs.declared.contexts.Context.{Context as Held}
 use Rattle.ax_context.specs.declared.contexts.Released.{Released}
 use Rattle.ax_context.specs.declared.contexts.Released.TheVariants as released
 use Rattle.ax_context.specs.Released.{Answers, left, gone_count}
-use Rattle.ax_context.specs.Slots.{Slots, at, Has, IsLive, live_count, OthersStay}
+use Rattle.ax_context.specs.Slots.{Slots, at, Has, live_count, OthersStay, IsPaid}
 use Rattle.ax_account.specs.Accounts.{owner_of, waiting_of}
 use Rattle.ax_time.specs.declared.timer.Timer.{Timer}
 use Rattle.ax_time.specs.Epochs.{Book}
@@ -20,8 +22,9 @@ use Rattle.ax_core.specs.declared.effects.Effects.{Effects}
 use Rattle.ax_core.specs.declared.effects.Ran.{Ran}
 use Rattle.ax_core.specs.declared.controller.Controller.{Controller}
 use Rattle.ax_core.specs.Flow.{shard_of}
-use Rattle.ax_core.specs.Callbacks.{items_for, IsHeld, IsQueued, ended, all_left, AllMayLeave, row_epochs, GoesOn}
-use Rattle.ax_core.specs.Calls.{IsDone, WaitsOn, IsGivenUp, GivesUp, CallEnds, MayEnd}
+use Rattle.ax_core.specs.Callbacks.{HasBegun, HasResumed, items_for, IsHeld, IsQueued, ended, all_left, AllMayLeave, row_epochs, GoesOn}
+use Rattle.ax_core.specs.Calls.{IsDone, CallEnds, MayEnd, Started, Replied}
+use Rattle.ax_core.proofs.GetLemmas.{if_ok}
 use Rattle.ax_core.proofs.TimerLemmas.{puts_at}
 
 -- what a live context has, it has as it is held
@@ -35,9 +38,10 @@ held_has P o h e x = subst (λ (q : Option (Held Record)). IsSomeAnd q P) (sym e
 pub has_at : (P : Held Record → Type 0) (o : Option (Held Record)) (h : Held Record) → o ≡ Some h → IsSomeAnd o P → P h
 has_at P o h e x = subst (λ (q : Option (Held Record)). IsSomeAnd q P) e x
 
-pub has_live : (P : Held Record → Type 0) (o : Option (Held Record)) → IsSomeAnd o P → IsSome o
-has_live P None x = absurd x
-has_live P (Some h) x = refl
+-- what wasn't the last reference
+pub live_is : (r : Released Record) → ((payload : Record) (epoch number : ℕ) → r ≡ released.Gone payload epoch number → ⊥) → r ≡ released.Live
+live_is released.Live f = refl
+live_is (released.Gone payload epoch number) f = absurd (f payload epoch number refl)
 
 -- its timers are set, and its requests asked
 module _ (a : Controller) (id : Id) (t : Turn) (h : Held Record) (there : at a.contexts id ≡ Some h) (key : Key) (named : key ≡ h.payload.facts.key) (timers : List Timer) (contexts : Slots Record) (buffer : Buffer) (shard : ℕ)
@@ -129,3 +133,26 @@ module _ (a : Controller) (id : Id) (t : Turn) (h : Held Record) (there : at a.c
         key = named;
         outs = refl;
       }
+
+-- a callback whose handler has begun, or was given an answer, has ended
+module _ (a b : Controller) (s : Slots Record) (id : Id) (t : Turn) (result : Result Effects NoMemory) where
+  ended : (payload : Record) (h : Held Record) (f : Effects) → at a.contexts id ≡ Some h → IsPaid a.contexts s id payload → Has s id (λ g. CallEnds (record a { contexts = s }) b id g t f)
+      → CallEnds (record a { contexts = s }) b id (record h { payload = payload }) t f
+  ended payload h f here paid ends = has_at (λ (g : Held Record). CallEnds (record a { contexts = s }) b id g t f) (at s id) (record h { payload = payload })
+      (has_at (λ (c : Held Record). at s id ≡ Some (record c { payload = payload })) (at a.contexts id) h here paid.paid) ends
+
+  pub starts : Has a.contexts id (λ h. HasBegun a.program a.contexts s id h t) → IfOk result (λ f. Has s id (λ g. CallEnds (record a { contexts = s }) b id g t f))
+      → IfOk result (λ f. Has a.contexts id (Started a b id f))
+  starts begun ends = of (has_held (λ (h : Held Record). HasBegun a.program a.contexts s id h t) (at a.contexts id) begun)
+    where
+      of : (h : Held Record) × ((at a.contexts id ≡ Some h) × HasBegun a.program a.contexts s id h t) → IfOk result (λ f. Has a.contexts id (Started a b id f))
+      of it = if_ok result (λ (f : Effects) (x : Has s id (λ g. CallEnds (record a { contexts = s }) b id g t f)). held_has (Started a b id f) (at a.contexts id) it.0 it.1.0
+          (record { contexts = s; turn = t; begun = it.1.1; ended = ended it.1.1.payload it.0 f it.1.0 it.1.1.paid x })) ends
+
+  pub replies : (slot : ℕ) (answer : Answer) → Has a.contexts id (λ h. HasResumed a.program a.contexts s id h slot answer t) → IfOk result (λ f. Has s id (λ g. CallEnds (record a { contexts = s }) b id g t f))
+      → IfOk result (λ f. Has a.contexts id (Replied a b id slot answer f))
+  replies slot answer resumed ends = of (has_held (λ (h : Held Record). HasResumed a.program a.contexts s id h slot answer t) (at a.contexts id) resumed)
+    where
+      of : (h : Held Record) × ((at a.contexts id ≡ Some h) × HasResumed a.program a.contexts s id h slot answer t) → IfOk result (λ f. Has a.contexts id (Replied a b id slot answer f))
+      of it = if_ok result (λ (f : Effects) (x : Has s id (λ g. CallEnds (record a { contexts = s }) b id g t f)). held_has (Replied a b id slot answer f) (at a.contexts id) it.0 it.1.0
+          (record { contexts = s; turn = t; resumed = it.1.1; ended = ended it.1.1.payload it.0 f it.1.0 it.1.1.paid x })) ends
