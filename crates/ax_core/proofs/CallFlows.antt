@@ -64,7 +64,7 @@ use Rattle.ax_core.proofs.EventLemmas.{no_row_numbered}
 use Rattle.ax_core.proofs.FiresFlow.{flow_fires}
 use Rattle.ax_core.proofs.Flows.{same_self, same_is}
 use Rattle.ax_core.proofs.Frames.{KeyIn}
-use Rattle.ax_core.proofs.Fronts.{HeldAs, held_as, IsStart, start_quiet, start_as, IsToStart, is_to_start_there, IsToGive, is_to_give_there}
+use Rattle.ax_core.proofs.Fronts.{HeldAs, held_as, IsStartOf, start_quiet, start_as, IsToStart, is_to_start_there, IsToGive, is_to_give_there}
 use Rattle.ax_core.proofs.KeysStay.{keys_made}
 use Rattle.ax_core.proofs.Replaced.{contains_none, replaced_keeps, replaced_has}
 use Rattle.ax_core.proofs.Sends.{accepted}

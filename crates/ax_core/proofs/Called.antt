@@ -34,7 +34,7 @@ use Rattle.ax_core.specs.Flow.{IsFlow}
 use Rattle.ax_core.specs.Sound.{rules_of, StandsFor}
 use Rattle.ax_core.specs.Callbacks.{with_machine, Resumed, ResumedAt, HasBegun, HasResumed}
 use Rattle.ax_core.proofs.Flows.{same_self, same_is}
-use Rattle.ax_core.proofs.Fronts.{HeldAs, held_as, IsStart, start_answers, IsToStart, is_to_start_there, start_unanswered, IsToGive, is_to_give_there}
+use Rattle.ax_core.proofs.Fronts.{HeldAs, held_as, IsStartOf, start_answers, IsToStart, is_to_start_there, start_unanswered, IsToGive, is_to_give_there}
 use Rattle.ax_core.proofs.Owners.{RunsAt, runs_at}
 use Rattle.ax_core.proofs.CallLemmas.{turn_begins, turn_gives, begun_references, given_references, none_answers, given_answers, answer_given, others_answered}
 use Rattle.ax_core.proofs.CalledLemmas.{start_is, starts_are, may_start, deliver_is, gives_are, may_deliver}
@@ -76,7 +76,7 @@ is_unbegun a id None Unbegun e y = refl
 is_unbegun a id None (Begun r) e y = absurd y
 is_unbegun a id (Some code) stage e y = absurd (none_some (sym e))
 
-pub calls_start : (a : Controller) (m : MachineControl) (first : Mail) (ns : List Mail) (id : Id) (h : Held Record) (s : Slots Record) (t : CodeTurn) → IsFlow a → StandsFor a m → a.mails.mails ≡ first ∷ ns → IsStart id first
+pub calls_start : (a : Controller) (m : MachineControl) (first : Mail) (ns : List Mail) (id : Id) (h : Held Record) (s : Slots Record) (t : CodeTurn) → IsFlow a → StandsFor a m → a.mails.mails ≡ first ∷ ns → IsStartOf id first
     → at a.contexts id ≡ Some h → (b : HasBegun a.program a.contexts s id h t) → Calls a m ns id h b.begins.after t (Start h.payload.facts.key)
 calls_start a m first ns id h s t flow x taken starts here b =
     let key : Key = h.payload.facts.key in

@@ -57,7 +57,7 @@ use Rattle.ax_core.proofs.Called.{Calls, CallsBy, calls_start, calls_reply}
 use Rattle.ax_core.proofs.CalledLemmas.{starts_by, posted_length, started_owner, way_called}
 use Rattle.ax_core.proofs.CalledStands.{times_behind, control_behind, call_behind, ends_where, waits_where, control_waits, flight_waits, owed_waits, epoch_waits, keys_wait, flight_ends, owed_ends, keys_end, epochs_end, may_end}
 use Rattle.ax_core.proofs.EventLemmas.{posted}
-use Rattle.ax_core.proofs.Fronts.{IsStart}
+use Rattle.ax_core.proofs.Fronts.{IsStartOf}
 use Rattle.ax_core.proofs.FiresStand.{StandsBut, fires_as_told}
 use Rattle.ax_core.proofs.Open.{idle_stands}
 use Rattle.ax_core.proofs.TimerLemmas.{puts_at}
@@ -363,7 +363,7 @@ both_there (Some y) p q go = go y refl p q
 
 module _ (a new : Controller) (first : Mail) (ns : List Mail) (id : Id) (f : Effects) (sound : IsSound a) (accepted : AreAccepted (shown_program a.program)) (fits : Fits64 a.epochs) (taken : a.mails.mails ≡ first ∷ ns) where
   -- a handler begins
-  pub runs_start : IsStart id first → Has a.contexts id (λ h. f.ran ≡ ran.Start h.number) → Has a.contexts id (Started (record a { mails = record { mails = ns; room = a.mails.room } }) new id f)
+  pub runs_start : IsStartOf id first → Has a.contexts id (λ h. f.ran ≡ ran.Start h.number) → Has a.contexts id (Started (record a { mails = record { mails = ns; room = a.mails.room } }) new id f)
       → (m : MachineControl) → StandsFor a m → Runs a new f m
   runs_start starts said started m x = both_there (at a.contexts id) said started of
     where
@@ -390,11 +390,12 @@ module _ (a new : Controller) (first : Mail) (ns : List Mail) (id : Id) (f : Eff
           (subst (λ (r : Record). CallEnds (record a { mails = record { mails = ns; room = a.mails.room }; contexts = it.contexts }) new id (record h { payload = r }) it.turn f) by.payload it.ended)
           (ran.Reply h.number slot) is refl refl
 
-  -- and the end of such a callback may come, where its handler has begun or was given the answer
+-- the end of such a callback may come, where its handler has begun or was given the answer
+module _ (a : Controller) (first : Mail) (ns : List Mail) (id : Id) (sound : IsSound a) (accepted : AreAccepted (shown_program a.program)) (fits : Fits64 a.epochs) (taken : a.mails.mails ≡ first ∷ ns) where
   orderly_now : IsOrderly (rules_of a.settings) sound.control
   orderly_now = reached_orderly (rules_of a.settings) (shown_program a.program) sound.control accepted sound.stands.reached
 
-  pub ends_start : IsStart id first → (s : Slots Record) (t : CodeTurn) (h : Held Record) → at a.contexts id ≡ Some h → (b : HasBegun a.program a.contexts s id h t)
+  pub ends_start : IsStartOf id first → (s : Slots Record) (t : CodeTurn) (h : Held Record) → at a.contexts id ≡ Some h → (b : HasBegun a.program a.contexts s id h t)
       → MayEnd (record a { mails = record { mails = ns; room = a.mails.room }; contexts = s }) id t (record h { payload = b.payload })
   ends_start starts s t h here b =
       subst (λ (r : Record). MayEnd (record a { mails = record { mails = ns; room = a.mails.room }; contexts = s }) id t (record h { payload = r })) (sym b.begins.there)

@@ -60,22 +60,25 @@ one_is false n e = absurd (omega (arith, e))
 -- ---- a handler begins
 
 -- a mail that starts a context
-abbrev pub IsStart : Id → Mail → Type 0
-IsStart id (mail.Start i) = i ≡ id
-IsStart id (mail.Fire i) = i ≡ id
-IsStart id (mail.Reply i s answer) = ⊥
+abbrev pub IsStartOf : Id → Mail → Type 0
+IsStartOf id (mail.Start i) = i ≡ id
+IsStartOf id (mail.Fire i) = i ≡ id
+IsStartOf id (mail.Reply i s answer) = ⊥
 
-pub start_quiet : (id : Id) (m : Mail) → IsStart id m → AnswersNothing m
+pub start_quiet : (id : Id) (m : Mail) → IsStartOf id m → AnswersNothing m
 start_quiet id (mail.Start i) e j slot = refl
 start_quiet id (mail.Fire i) e j slot = refl
 start_quiet id (mail.Reply i s answer) e j slot = absurd e
 
-pub start_as : (id : Id) (m : Mail) → IsStart id m → (j : Id) → starts_as j m ≡ one_if (same_id id j)
+pub start_as : (id : Id) (m : Mail) → IsStartOf id m → (j : Id) → starts_as j m ≡ one_if (same_id id j)
 start_as id (mail.Start i) e j = ap (λ (k : Id). one_if (same_id k j)) e
 start_as id (mail.Fire i) e j = ap (λ (k : Id). one_if (same_id k j)) e
 start_as id (mail.Reply i s answer) e j = absurd e
 
-pub start_answers : (id : Id) (m : Mail) (ns : List Mail) → IsStart id m → (i : Id) (slot : ℕ) → answer_in ns i slot ≡ answer_in (m ∷ ns) i slot
+pub start_counts : (id : Id) (m : Mail) → IsStartOf id m → starts_as id m ≡ 1
+start_counts id m starts = start_as id m starts id ∙ ap (λ (b : Bool). one_if b) (same_self id)
+
+pub start_answers : (id : Id) (m : Mail) (ns : List Mail) → IsStartOf id m → (i : Id) (slot : ℕ) → answer_in ns i slot ≡ answer_in (m ∷ ns) i slot
 start_answers id (mail.Start j) ns e i slot = refl
 start_answers id (mail.Fire j) ns e i slot = refl
 start_answers id (mail.Reply j s answer) ns e i slot = absurd e
@@ -86,12 +89,12 @@ pub record IsToStart (a : Controller) (ns : List Mail) (id : Id) (h : Held Recor
   pub owns : owner_of a.accounts h.payload.facts.key ≡ Some id
   pub once : started_as id ns ≡ 0
 
-pub is_to_start_there : (a : Controller) (first : Mail) (ns : List Mail) (id : Id) (h : Held Record) → IsFlow a → a.mails.mails ≡ first ∷ ns → IsStart id first → at a.contexts id ≡ Some h → IsToStart a ns id h
+pub is_to_start_there : (a : Controller) (first : Mail) (ns : List Mail) (id : Id) (h : Held Record) → IsFlow a → a.mails.mails ≡ first ∷ ns → IsStartOf id first → at a.contexts id ≡ Some h → IsToStart a ns id h
 is_to_start_there a first ns id h flow taken starts here =
     let counted : starts_as id first + started_as id ns ≡ one_if (is_to_start a id (Some h)) =
     sym (ap (started_as id) taken) ∙ flow.starts id ∙ ap (λ (o : Option (Held Record)). one_if (is_to_start a id o)) here in
     let one : (is_to_start a id (Some h) ≡ true) × (started_as id ns ≡ 0) =
-    one_is (is_to_start a id (Some h)) (started_as id ns) (ap (λ (n : ℕ). n + started_as id ns) (sym (start_as id first starts id ∙ ap (λ (b : Bool). one_if b) (same_self id))) ∙ counted) in
+    one_is (is_to_start a id (Some h)) (started_as id ns) (ap (λ (n : ℕ). n + started_as id ns) (sym (start_counts id first starts)) ∙ counted) in
     let both : (is_none h.payload.machine ≡ true) × (is_owner id (owner_of a.accounts h.payload.facts.key) ≡ true) =
     and_parts (is_none h.payload.machine) (is_owner id (owner_of a.accounts h.payload.facts.key)) one.0 in
     record { unbegun = none_is h.payload.machine both.0; owns = owner_is id (owner_of a.accounts h.payload.facts.key) both.1; once = one.1 }
@@ -100,7 +103,7 @@ nothing_left : (q o n : ℕ) → q + (o + n) ≡ 0 → n ≡ 0
 nothing_left q o n e = omega (arith, e)
 
 -- nothing that it asked is answered
-pub start_unanswered : (a : Controller) (first : Mail) (ns : List Mail) (id : Id) (h : Held Record) → IsFlow a → a.mails.mails ≡ first ∷ ns → IsStart id first → at a.contexts id ≡ Some h → h.payload.machine ≡ None
+pub start_unanswered : (a : Controller) (first : Mail) (ns : List Mail) (id : Id) (h : Held Record) → IsFlow a → a.mails.mails ≡ first ∷ ns → IsStartOf id first → at a.contexts id ≡ Some h → h.payload.machine ≡ None
     → (slot : ℕ) → answered_as id slot ns ≡ 0
 start_unanswered a first ns id h flow taken starts here unbegun slot =
     none_taken first ns id slot (start_quiet id first starts) ∙ sym (ap (answered_as id slot) taken)
