@@ -46,3 +46,4 @@ pub mod KeysStay
 pub mod Replaced
 pub mod CalledFlow
 pub mod CallFlows
+pub mod MailRuns
