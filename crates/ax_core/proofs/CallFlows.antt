@@ -37,7 +37,7 @@ use Rattle.ax_mailbox.specs.declared.mail.Mail.{Mail}
 use Rattle.ax_mailbox.specs.declared.mail.Mail.TheVariants as mail
 use Rattle.ax_time.specs.Epochs.{Book}
 use Rattle.ax_time.specs.Timers.{times_of}
-use Rattle.ax_execution.specs.Contexts.{Stage, Unbegun, Begun, Context, row_context, Waiting, Row, Mark}
+use Rattle.ax_execution.specs.Contexts.{Stage, Unbegun, Begun, row_context, Waiting, Row, Mark}
 use Rattle.ax_execution.specs.Counts.{references, one_at, rows_numbered}
 use Rattle.ax_execution.specs.Reached.{IsOrderly}
 use Rattle.ax_execution.proofs.ReachedOrderly.{reached_orderly}
@@ -49,8 +49,8 @@ use Rattle.ax_core.specs.declared.effects.Effects.{Effects}
 use Rattle.ax_core.specs.declared.settings.Settings.{Settings}
 use Rattle.ax_core.specs.declared.controller.Controller.{Controller}
 use Rattle.ax_core.specs.Contexts.{same_id, StageStands, IsContext, ContextStands, waits_in, waits_at}
-use Rattle.ax_core.specs.Keys.{OwnerStands, ItemsStand}
-use Rattle.ax_core.specs.Flow.{shard_of, one_if, names_request, answers_as, answered_as, starts_as, started_as, in_queues, in_outs, waits_for, is_owner, is_to_start, OwnsBegun, OwnsOnceBegun, IsFlow}
+use Rattle.ax_core.specs.Keys.{ItemsStand}
+use Rattle.ax_core.specs.Flow.{shard_of, one_if, answers_as, answered_as, starts_as, started_as, in_queues, in_outs, waits_for, is_owner, is_to_start, IsFlow}
 use Rattle.ax_core.specs.Sound.{InRange, rules_of, HasRooms, IsSound}
 use Rattle.ax_core.specs.Events.{SameRules, KeysStay}
 use Rattle.ax_core.specs.Firings.{FiresAt}
@@ -58,16 +58,14 @@ use Rattle.ax_core.specs.Callbacks.{with_machine, Begins, Resumed, ResumedAt, it
 use Rattle.ax_core.specs.Calls.{IsDone, WaitsOn, IsGivenUp, EndsBy, CallEnds, Started, Replied}
 use Rattle.ax_core.proofs.AskLemmas.{none_left}
 use Rattle.ax_core.proofs.CalledFlow.{Left, FlowsOn, flow_on, keys_on}
-use Rattle.ax_core.proofs.CalledLemmas.{AnswersNothing, once_begun, once_given}
+use Rattle.ax_core.proofs.CalledLemmas.{once_begun, once_given}
 use Rattle.ax_core.proofs.CallLemmas.{begun_references, given_references}
-use Rattle.ax_core.proofs.Called.{IsStartOf}
 use Rattle.ax_core.proofs.EventLemmas.{no_row_numbered}
 use Rattle.ax_core.proofs.FiresFlow.{flow_fires}
 use Rattle.ax_core.proofs.Flows.{same_self, same_is}
 use Rattle.ax_core.proofs.Frames.{KeyIn}
+use Rattle.ax_core.proofs.Fronts.{HeldAs, held_as, IsStartOf, start_quiet, start_as, IsToStart, is_to_start_there, IsToGive, is_to_give_there}
 use Rattle.ax_core.proofs.KeysStay.{keys_made}
-use Rattle.ax_core.proofs.Open.{and_parts}
-use Rattle.ax_core.proofs.Owners.{names_itself}
 use Rattle.ax_core.proofs.Replaced.{contains_none, replaced_keeps, replaced_has}
 use Rattle.ax_core.proofs.Sends.{accepted}
 use Rattle.ax_core.proofs.StartLemmas.{next_is, IsUnbegunOf, next_owns}
@@ -79,21 +77,7 @@ true_false e = cc e
 pub shard_inside : (s : Settings) (key : Key) → InRange s → shard_of s key < s.shards
 shard_inside s key r = index_below (group key s.groups) s.groups s.shards r.shards.0.0 r.shards.1 (mod_below (spread (hash_of key)) s.groups r.shards.0.0)
 
--- ---- the owner of a key, and the row that comes next
-
--- what is held of the owner, as the control has it
-pub record HeldAs (p : Program) (ms : List Mail) (key : Key) (id : Id) (h : Held Record) (o : Option Context) : Type 0 where
-  pub context : Context
-  pub owner : o ≡ Some context
-  pub stands : IsContext p ms key id h context
-
-pub held_as : (p : Program) (ms : List Mail) (s : Slots Record) (key : Key) (id : Id) (h : Held Record) → at s id ≡ Some h → (o : Option Id) (c : Option Context) → o ≡ Some id
-    → OwnerStands p ms s key o c → HeldAs p ms key id h c
-held_as p ms s key id h there None c e x = absurd (cc e)
-held_as p ms s key id h there (Some j) None e x = absurd x
-held_as p ms s key id h there (Some j) (Some c) e x =
-    let same : j ≡ id = cc in
-    record { context = c; owner = refl; stands = subst (λ (o : Option (Held Record)). ContextStands p ms key id o c) there (subst (λ (i : Id). ContextStands p ms key i (at s i) c) same x) }
+-- ---- the row that comes next at a key
 
 -- a row that waits for the key, with another number
 record NextRow (p : Program) (ms : List Mail) (s : Slots Record) (key : Key) (i : Id) (number : ℕ) : Type 0 where
@@ -408,28 +392,6 @@ module _ (old : Controller) (id : Id) (m : Mail) (ns : List Mail) (s : Slots Rec
 
 -- ---- a handler begins
 
-start_quiet : (id : Id) (m : Mail) → IsStartOf id m → AnswersNothing m
-start_quiet id (mail.Start i) e j slot = refl
-start_quiet id (mail.Fire i) e j slot = refl
-start_quiet id (mail.Reply i s a) e j slot = absurd e
-
-start_as : (id : Id) (m : Mail) → IsStartOf id m → (j : Id) → starts_as j m ≡ one_if (same_id id j)
-start_as id (mail.Start i) e j = ap (λ (k : Id). one_if (same_id k j)) e
-start_as id (mail.Fire i) e j = ap (λ (k : Id). one_if (same_id k j)) e
-start_as id (mail.Reply i s a) e j = absurd e
-
-is_true : (b : Bool) → 1 ≤ one_if b → b ≡ true
-is_true true h = refl
-is_true false h = absurd (omega (arith, h))
-
-at_most : (b : Bool) → one_if b ≤ 1
-at_most true = omega arith
-at_most false = omega arith
-
-owner_is : (id : Id) (o : Option Id) → is_owner id o ≡ true → o ≡ Some id
-owner_is id None e = absurd (cc e)
-owner_is id (Some j) e = ap Some (same_is j id e)
-
 -- one that hasn't begun waits for nothing, and has one reference
 none_waited : (p : Program) (o : Option Machine) → is_none o ≡ true → waits_in p o ≡ []
 none_waited p None e = refl
@@ -445,32 +407,21 @@ module _ (old : Controller) (id : Id) (m : Mail) (ns : List Mail) (sound : IsSou
   taken_from = record old { mails = record { mails = ns; room = old.mails.room } }
 
   module _ (h : Held Record) (there : at old.contexts id ≡ Some h) where
-    -- it owns its key, hasn't begun, and no other mail starts it
-    sum : starts_as id m + started_as id ns ≡ one_if (is_none h.payload.machine && is_owner id (owner_of old.accounts h.payload.facts.key))
-    sum = sym (ap (started_as id) taken) ∙ sound.flow.starts id ∙ ap (λ (o : Option (Held Record)). one_if (is_to_start old id o)) there
+    to_start : IsToStart old ns id h
+    to_start = is_to_start_there old m ns id h sound.flow taken start there
 
-    first : starts_as id m ≡ 1
-    first = start_as id m start id ∙ ap one_if (same_self id)
-
-    both : (is_none h.payload.machine ≡ true) × (is_owner id (owner_of old.accounts h.payload.facts.key) ≡ true)
-    both = and_parts (is_none h.payload.machine) (is_owner id (owner_of old.accounts h.payload.facts.key))
-        (is_true (is_none h.payload.machine && is_owner id (owner_of old.accounts h.payload.facts.key)) (omega (arith, sum, first)))
-
-    no_start : started_as id ns ≡ 0
-    no_start = omega (arith, sum, first, at_most (is_none h.payload.machine && is_owner id (owner_of old.accounts h.payload.facts.key)))
-
-    own_key : owner_of old.accounts h.payload.facts.key ≡ Some id
-    own_key = owner_is id (owner_of old.accounts h.payload.facts.key) both.1
+    unbegun : is_none h.payload.machine ≡ true
+    unbegun = ap is_none to_start.unbegun
 
     stands : HeldAs old.program old.mails.mails h.payload.facts.key id h (sound.control.controls h.payload.facts.key).owner
-    stands = held_as old.program old.mails.mails old.contexts h.payload.facts.key id h there (part_of old.accounts h.payload.facts.key).owner (sound.control.controls h.payload.facts.key).owner own_key
+    stands = held_as old.program old.mails.mails old.contexts h.payload.facts.key id h there (part_of old.accounts h.payload.facts.key).owner (sound.control.controls h.payload.facts.key).owner to_start.owns
         (sound.stands.stands.keys h.payload.facts.key).owner
 
     counted : h.count ≡ 1
-    counted = stands.stands.count ∙ one_reference old.program old.mails.mails id h.payload.machine stands.context.stage both.0 stands.stands.stage
+    counted = stands.stands.count ∙ one_reference old.program old.mails.mails id h.payload.machine stands.context.stage unbegun stands.stands.stage
 
     waited : waits_at old.program (at old.contexts id) ≡ []
-    waited = ap (waits_at old.program) there ∙ none_waited old.program h.payload.machine both.0
+    waited = ap (waits_at old.program) there ∙ none_waited old.program h.payload.machine unbegun
 
     start_calls : (s : Slots Record) (payload : Record) (t : Turn) → Begins old.program h.payload payload t → IsPaid old.contexts s id payload → CallsAt old id m ns s h payload t [] (asks_in t.asks)
     start_calls s payload t b paid = record {
@@ -478,7 +429,7 @@ module _ (old : Controller) (id : Id) (m : Mail) (ns : List Mail) (sound : IsSou
       paid = paid;
       after = b.after;
       made = b.there;
-      owned = ap (λ (r : Record). owner_of old.accounts r.facts.key) b.there ∙ own_key;
+      owned = ap (λ (r : Record). owner_of old.accounts r.facts.key) b.there ∙ to_start.owns;
       waited = waited;
       waits = b.asks;
       count = ap (λ (n : ℕ). n + length t.asks) counted ∙ begun_references old.program h.payload payload t b;
@@ -487,7 +438,7 @@ module _ (old : Controller) (id : Id) (m : Mail) (ns : List Mail) (sound : IsSou
       taken = taken;
       starts = λ i differ. start_as id m start i ∙ ap one_if differ;
       answers = λ i slot differ. start_quiet id m start i slot;
-      started = no_start;
+      started = to_start.once;
       once = λ c n queued outs posted waits. once_begun old c id payload.facts.key (shard_of old.settings payload.facts.key) t.asks n m ns (start_quiet id m start)
           (subst (λ (k : ℕ). shard_of old.settings payload.facts.key < k) (sym sound.flow.shards.0) (shard_inside old.settings payload.facts.key sound.ranges))
           queued outs taken posted (same_self id) b.rise waited waits (sound.flow.once id);
@@ -511,36 +462,18 @@ module _ (old : Controller) (id : Id) (slot : ℕ) (answer : Answer) (ns : List 
   abbrev taken_out : Controller
   taken_out = record old { mails = record { mails = ns; room = old.mails.room } }
 
-  all_ways : in_queues old id slot + (in_outs old id slot + (one_if (names_request id slot id slot) + answered_as id slot ns)) ≡ one_if (waits_for (waits_at old.program (at old.contexts id)) slot)
-  all_ways = ap (λ (ms : List Mail). in_queues old id slot + (in_outs old id slot + answered_as id slot ms)) (sym taken) ∙ sound.flow.once id slot
-
-  names : one_if (names_request id slot id slot) ≡ 1
-  names = ap one_if (names_itself id slot)
-
-  waits_there : waits_for (waits_at old.program (at old.contexts id)) slot ≡ true
-  waits_there = is_true (waits_for (waits_at old.program (at old.contexts id)) slot) (omega (arith, all_ways, names))
-
-  not_queued : in_queues old id slot ≡ 0
-  not_queued = omega (arith, all_ways, names, at_most (waits_for (waits_at old.program (at old.contexts id)) slot))
-
   module _ (h : Held Record) (there : at old.contexts id ≡ Some h) (code : Machine) (begun : h.payload.machine ≡ Some code) where
-    was : List Asked
-    was = waiting (machine.control_of old.program code)
+    to_give : IsToGive old ns id slot h code
+    to_give = is_to_give_there old ns id slot answer h code sound.flow taken there begun
 
     waited_for : waits_at old.program (at old.contexts id) ≡ waiting (machine.control_of old.program code)
     waited_for = ap (waits_at old.program) there ∙ ap (waits_in old.program) begun
 
     waits_here : waits_for (waiting (machine.control_of old.program code)) slot ≡ true
-    waits_here = ap (λ (ys : List Asked). waits_for ys slot) (sym waited_for) ∙ waits_there
-
-    has_slot : has slot (slots (machine.control_of old.program code)) ≡ true
-    has_slot = ap (has slot) (slots_waiting (machine.control_of old.program code)) ∙ waits_here
-
-    owns : owner_of old.accounts h.payload.facts.key ≡ Some id
-    owns = subst (λ (o : Option Machine). OwnsBegun old id o h.payload.facts.key) begun (subst (λ (o : Option (Held Record)). OwnsOnceBegun old id o) there (sound.flow.begun id))
+    waits_here = ap (has slot) (sym (slots_waiting (machine.control_of old.program code))) ∙ to_give.waits
 
     owner_held : HeldAs old.program old.mails.mails h.payload.facts.key id h (sound.control.controls h.payload.facts.key).owner
-    owner_held = held_as old.program old.mails.mails old.contexts h.payload.facts.key id h there (part_of old.accounts h.payload.facts.key).owner (sound.control.controls h.payload.facts.key).owner owns
+    owner_held = held_as old.program old.mails.mails old.contexts h.payload.facts.key id h there (part_of old.accounts h.payload.facts.key).owner (sound.control.controls h.payload.facts.key).owner to_give.owns
         (sound.stands.stands.keys h.payload.facts.key).owner
 
     -- it waits for as many requests as it has references
@@ -571,10 +504,10 @@ module _ (old : Controller) (id : Id) (slot : ℕ) (answer : Answer) (ns : List 
       paid = paid;
       after = g.after;
       made = g.there;
-      owned = ap (λ (r : Record). owner_of old.accounts r.facts.key) g.there ∙ owns;
+      owned = ap (λ (r : Record). owner_of old.accounts r.facts.key) g.there ∙ to_give.owns;
       waited = waited_for;
       waits = g.asks;
-      count = ap (λ (n : ℕ). n + length t.asks) runs.count ∙ given_references old.program h.payload payload code slot answer t g has_slot;
+      count = ap (λ (n : ℕ). n + length t.asks) runs.count ∙ given_references old.program h.payload payload code slot answer t g to_give.waits;
       asked = λ a c. replaced_has slot (asks_in t.asks) (waiting (machine.control_of old.program code)) a waits_here c;
       keeps = λ u q some c. replaced_keeps slot (asks_in t.asks) (waiting (machine.control_of old.program code)) (record { slot = u; request = q }) (other u some) c;
       taken = taken;
@@ -589,7 +522,7 @@ module _ (old : Controller) (id : Id) (slot : ℕ) (answer : Answer) (ns : List 
       where
         other : (u : ℕ) → 1 ≤ in_queues old id u → nat_eq slot u ≡ false
         other u some = by_cases (nat_eq slot u)
-            (λ e. let none : in_queues old id u ≡ 0 = ap (in_queues old id) (sym (eqb-true slot u e)) ∙ not_queued in absurd (omega (arith, some, none)))
+            (λ e. let none : in_queues old id u ≡ 0 = ap (in_queues old id) (sym (eqb-true slot u e)) ∙ to_give.unqueued in absurd (omega (arith, some, none)))
             (λ e. e)
 
   -- behind an answer, too

@@ -31,7 +31,7 @@ use Rattle.ax_execution.specs.KeyControls.{KeyControl}
 use Rattle.ax_execution.specs.Machine.{Happening, Start, Deliver}
 use Rattle.ax_execution.specs.Allowed.{MayFireNow}
 use Rattle.ax_execution.specs.ControlTurns.{is_idle_on, handed_on}
-use Rattle.ax_execution.specs.MachineControls.{MachineControl, ControlOutcome, control_at, happens_on, outcome_on, in_flight_on}
+use Rattle.ax_execution.specs.MachineControls.{MachineControl, control_at, happens_on, outcome_on, in_flight_on}
 use Rattle.ax_execution.specs.ControlsAllowed.{AllowedOn}
 use Rattle.ax_execution.specs.Reached.{IsReached, IsOrderly, owed_in}
 use Rattle.ax_execution.proofs.SingleKeys.{own_control, other_control}
@@ -53,10 +53,11 @@ use Rattle.ax_core.specs.Events.{Fires, FiresNext, Runs, event_of, number_of, Is
 use Rattle.ax_core.specs.Firings.{FiresAt}
 use Rattle.ax_core.specs.Callbacks.{with_machine, HasBegun, HasResumed, behind_marks, ended, all_left, row_epochs, with_start, waits_next, HandsOver, GoesOn}
 use Rattle.ax_core.specs.Calls.{WaitsOn, IsGivenUp, GivesUp, EndsBy, CallEnds, Started, Replied, MayEnd}
-use Rattle.ax_core.proofs.Called.{Calls, CallsBy, IsStartOf, calls_start, calls_reply}
+use Rattle.ax_core.proofs.Called.{Calls, CallsBy, calls_start, calls_reply}
 use Rattle.ax_core.proofs.CalledLemmas.{starts_by, posted_length, started_owner, way_called}
 use Rattle.ax_core.proofs.CalledStands.{times_behind, control_behind, call_behind, ends_where, waits_where, control_waits, flight_waits, owed_waits, epoch_waits, keys_wait, flight_ends, owed_ends, keys_end, epochs_end, may_end}
 use Rattle.ax_core.proofs.EventLemmas.{posted}
+use Rattle.ax_core.proofs.Fronts.{IsStartOf}
 use Rattle.ax_core.proofs.FiresStand.{StandsBut, fires_as_told}
 use Rattle.ax_core.proofs.Open.{idle_stands}
 use Rattle.ax_core.proofs.TimerLemmas.{puts_at}
@@ -336,8 +337,8 @@ module _ (a : Controller) (m : MachineControl) (first : Mail) (ns : List Mail) (
       record {
         owner = subst (IsOwnedBy h.number) (sym c.owner) (sym c.stands.number);
         allowed = c.allowed;
-        lines = ap (λ (o : ControlOutcome). o.lines) c.outcome ∙ ap (λ (y : Turn). says key y.talk.lines) c.left ∙ ap (says key) (sym call.outs);
-        gone = ap (λ (o : ControlOutcome). o.gone) c.outcome ∙ it.ends;
+        lines = c.lines ∙ ap (λ (y : Turn). says key y.talk.lines) c.left ∙ ap (says key) (sym call.outs);
+        gone = c.gone ∙ it.ends;
         next = subst (λ (n : MachineControl). FiresNext a new f.fired n) (sym c.goes) it.next;
       }
 
@@ -389,7 +390,8 @@ module _ (a new : Controller) (first : Mail) (ns : List Mail) (id : Id) (f : Eff
           (subst (λ (r : Record). CallEnds (record a { mails = record { mails = ns; room = a.mails.room }; contexts = it.contexts }) new id (record h { payload = r }) it.turn f) by.payload it.ended)
           (ran.Reply h.number slot) is refl refl
 
-  -- and the end of such a callback may come, where its handler has begun or was given the answer
+-- the end of such a callback may come, where its handler has begun or was given the answer
+module _ (a : Controller) (first : Mail) (ns : List Mail) (id : Id) (sound : IsSound a) (accepted : AreAccepted (shown_program a.program)) (fits : Fits64 a.epochs) (taken : a.mails.mails ≡ first ∷ ns) where
   orderly_now : IsOrderly (rules_of a.settings) sound.control
   orderly_now = reached_orderly (rules_of a.settings) (shown_program a.program) sound.control accepted sound.stands.reached
 

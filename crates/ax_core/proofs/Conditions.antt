@@ -28,11 +28,12 @@ use Rattle.ax_core.specs.Contexts.{waits_at}
 use Rattle.ax_core.specs.Sound.{rules_of, IsSound}
 use Rattle.ax_core.specs.Callbacks.{WaitsAt, HasBegun, HasResumed}
 use Rattle.ax_core.specs.Calls.{MayEnd, IsReady, MayStart, MayReply}
-use Rattle.ax_core.proofs.Called.{Calls, CallsBy, IsStartOf, start_counts, calls_start, calls_reply}
+use Rattle.ax_core.proofs.Called.{Calls, CallsBy, calls_start, calls_reply}
 use Rattle.ax_core.proofs.CalledRuns.{ends_start, ends_reply}
 use Rattle.ax_core.proofs.CallRooms.{requests_fit, contexts_fit}
 use Rattle.ax_core.proofs.Deliveries.{mails_fit}
 use Rattle.ax_core.proofs.Ends.{has_held, held_has, has_at}
+use Rattle.ax_core.proofs.Fronts.{IsStartOf, start_counts}
 use Rattle.ax_core.proofs.Owners.{RunsAt, runs_at, names_itself}
 use Rattle.ax_core.proofs.Serves.{WaitsAt as Waiter, waits_there}
 

@@ -22,6 +22,7 @@ pub mod Ends
 pub mod EventLemmas
 pub mod Forgotten
 pub mod Frames
+pub mod Fronts
 pub mod GetLemmas
 pub mod GoLemmas
 pub mod HandLemmas
