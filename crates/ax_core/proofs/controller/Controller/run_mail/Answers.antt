@@ -1,7 +1,7 @@
 use Rattle.std.proofs.Common.{refl, sym, subst}
 use Rattle.ax_lang.specs.Shown.{shown_program}
 use Rattle.ax_execution.specs.Accepted.{AreAccepted}
-use Rattle.ax_core.proofs.Called.{IsStartOf}
+use Rattle.ax_core.proofs.Fronts.{IsStartOf}
 use Rattle.ax_core.proofs.MailRuns.{start_may, reply_may, start_has_run, reply_has_run, run_sound, run_same, run_outs, run_event}
 use Rattle.ax_core.proofs.controller.Controller.run_mail.Goals as goal
 
@@ -10,8 +10,8 @@ run_start-requires c =
     let accepted : AreAccepted (shown_program c.args.self.now.program) = record { row = c.program_is_accepted.ensures.row c.args.self.now.program; timer = c.program_is_accepted.ensures.timer c.args.self.now.program } in
     start_may c.args.self.now c.requires.sound accepted c.sizes_law.ensures c.take.new.self c.take.ensures.room c.in-Some-Start.field-0 c.in-Some-Start.ensures.mails c.in-Some-Start.id (subst (IsStartOf c.in-Some-Start.id) (sym c.in-Some-Start.field-0-is) refl)
 
-pub run_start-in-Some-Fire-requires : goal.run_start-in-Some-Fire-requires
-run_start-in-Some-Fire-requires c =
+pub run_start-requires-in-Some-Fire : goal.run_start-requires-in-Some-Fire
+run_start-requires-in-Some-Fire c =
     let accepted : AreAccepted (shown_program c.args.self.now.program) = record { row = c.program_is_accepted.ensures.row c.args.self.now.program; timer = c.program_is_accepted.ensures.timer c.args.self.now.program } in
     start_may c.args.self.now c.requires.sound accepted c.sizes_law.ensures c.take.new.self c.take.ensures.room c.in-Some-Fire.field-0 c.in-Some-Fire.ensures.mails c.in-Some-Fire.id (subst (IsStartOf c.in-Some-Fire.id) (sym c.in-Some-Fire.field-0-is) refl)
 
