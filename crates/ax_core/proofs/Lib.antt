@@ -48,3 +48,4 @@ pub mod Replaced
 pub mod CalledFlow
 pub mod CallFlows
 pub mod MailRuns
+pub mod Orders
