@@ -47,3 +47,5 @@ pub mod KeysStay
 pub mod Replaced
 pub mod CalledFlow
 pub mod CallFlows
+pub mod MailRuns
+pub mod Orders
