@@ -26,7 +26,7 @@ use Rattle.ax_mailbox.specs.declared.mail.Mail.TheVariants as mail
 use Rattle.ax_time.specs.Epochs.{Book, Fits64}
 use Rattle.ax_time.specs.Timers.{times_of}
 use Rattle.ax_execution.specs.Accepted.{AreAccepted}
-use Rattle.ax_execution.specs.Contexts.{Context, Waiting, Row, Mark, owners, is_idle_with}
+use Rattle.ax_execution.specs.Contexts.{owners}
 use Rattle.ax_execution.specs.KeyControls.{KeyControl}
 use Rattle.ax_execution.specs.Machine.{Happening, Start, Deliver}
 use Rattle.ax_execution.specs.Allowed.{MayFireNow}
@@ -44,7 +44,7 @@ use Rattle.ax_core.specs.declared.effects.Ran.{Ran}
 use Rattle.ax_core.specs.declared.effects.Ran.TheVariants as ran
 use Rattle.ax_core.specs.declared.effects.Effects.{Effects}
 use Rattle.ax_core.specs.declared.controller.Controller.{Controller}
-use Rattle.ax_core.specs.Keys.{OwnerStands, ItemsStand, PartStands, KeyStands}
+use Rattle.ax_core.specs.Keys.{PartStands, KeyStands}
 use Rattle.ax_core.specs.Flow.{on_the_way}
 use Rattle.ax_core.specs.Epochs.{EpochsStand}
 use Rattle.ax_core.specs.Stands.{Stands}
