@@ -136,9 +136,9 @@ module _ (a : Controller) (id : Id) (t : Turn) (h : Held Record) (there : at a.c
 
 -- a callback whose handler has begun, or was given an answer, has ended
 module _ (a b : Controller) (s : Slots Record) (id : Id) (t : Turn) (result : Result Effects NoMemory) where
-  ended : (payload : Record) (h : Held Record) (f : Effects) → at a.contexts id ≡ Some h → IsPaid a.contexts s id payload → Has s id (λ g. CallEnds (record a { contexts = s }) b id g t f)
+  ended_call : (payload : Record) (h : Held Record) (f : Effects) → at a.contexts id ≡ Some h → IsPaid a.contexts s id payload → Has s id (λ g. CallEnds (record a { contexts = s }) b id g t f)
       → CallEnds (record a { contexts = s }) b id (record h { payload = payload }) t f
-  ended payload h f here paid ends = has_at (λ (g : Held Record). CallEnds (record a { contexts = s }) b id g t f) (at s id) (record h { payload = payload })
+  ended_call payload h f here paid ends = has_at (λ (g : Held Record). CallEnds (record a { contexts = s }) b id g t f) (at s id) (record h { payload = payload })
       (has_at (λ (c : Held Record). at s id ≡ Some (record c { payload = payload })) (at a.contexts id) h here paid.paid) ends
 
   pub starts : Has a.contexts id (λ h. HasBegun a.program a.contexts s id h t) → IfOk result (λ f. Has s id (λ g. CallEnds (record a { contexts = s }) b id g t f))
@@ -147,7 +147,7 @@ module _ (a b : Controller) (s : Slots Record) (id : Id) (t : Turn) (result : Re
     where
       of : (h : Held Record) × ((at a.contexts id ≡ Some h) × HasBegun a.program a.contexts s id h t) → IfOk result (λ f. Has a.contexts id (Started a b id f))
       of it = if_ok result (λ (f : Effects) (x : Has s id (λ g. CallEnds (record a { contexts = s }) b id g t f)). held_has (Started a b id f) (at a.contexts id) it.0 it.1.0
-          (record { contexts = s; turn = t; begun = it.1.1; ended = ended it.1.1.payload it.0 f it.1.0 it.1.1.paid x })) ends
+          (record { contexts = s; turn = t; begun = it.1.1; ended = ended_call it.1.1.payload it.0 f it.1.0 it.1.1.paid x })) ends
 
   pub replies : (slot : ℕ) (answer : Answer) → Has a.contexts id (λ h. HasResumed a.program a.contexts s id h slot answer t) → IfOk result (λ f. Has s id (λ g. CallEnds (record a { contexts = s }) b id g t f))
       → IfOk result (λ f. Has a.contexts id (Replied a b id slot answer f))
@@ -155,4 +155,4 @@ module _ (a b : Controller) (s : Slots Record) (id : Id) (t : Turn) (result : Re
     where
       of : (h : Held Record) × ((at a.contexts id ≡ Some h) × HasResumed a.program a.contexts s id h slot answer t) → IfOk result (λ f. Has a.contexts id (Replied a b id slot answer f))
       of it = if_ok result (λ (f : Effects) (x : Has s id (λ g. CallEnds (record a { contexts = s }) b id g t f)). held_has (Replied a b id slot answer f) (at a.contexts id) it.0 it.1.0
-          (record { contexts = s; turn = t; resumed = it.1.1; ended = ended it.1.1.payload it.0 f it.1.0 it.1.1.paid x })) ends
+          (record { contexts = s; turn = t; resumed = it.1.1; ended = ended_call it.1.1.payload it.0 f it.1.0 it.1.1.paid x })) ends

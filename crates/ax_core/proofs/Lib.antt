@@ -47,5 +47,6 @@ pub mod KeysStay
 pub mod Replaced
 pub mod CalledFlow
 pub mod CallFlows
+pub mod MailRuns
 pub mod Orders
 pub mod CallOrder

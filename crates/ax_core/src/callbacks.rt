@@ -55,7 +55,8 @@ impl Controller {
         program_is_accepted();
         sizes_law(&self.epochs);
         match self.mails.take() {
-            Some(Mail::Start { id } | Mail::Fire { id }) => self.run_start(id),
+            Some(Mail::Start { id }) => self.run_start(id),
+            Some(Mail::Fire { id }) => self.run_start(id),
             Some(Mail::Reply { id, slot, answer }) => self.run_reply(id, slot, answer),
             None => unreachable!(),
         }
