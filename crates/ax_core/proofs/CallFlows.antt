@@ -402,7 +402,7 @@ one_reference p ms id None Unbegun e x = refl
 one_reference p ms id None (Begun r) e x = absurd x
 one_reference p ms id (Some c) st e x = absurd (cc e)
 
-module _ (old : Controller) (id : Id) (m : Mail) (ns : List Mail) (sound : IsSound old) (taken : old.mails.mails ≡ m ∷ ns) (start : IsStart id m) where
+module _ (old : Controller) (id : Id) (m : Mail) (ns : List Mail) (sound : IsSound old) (taken : old.mails.mails ≡ m ∷ ns) (start : IsStartOf id m) where
   abbrev taken_from : Controller
   taken_from = record old { mails = record { mails = ns; room = old.mails.room } }
 
