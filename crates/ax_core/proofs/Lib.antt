@@ -50,3 +50,4 @@ pub mod CallFlows
 pub mod MailRuns
 pub mod Orders
 pub mod CallOrder
+pub mod BatchFits

@@ -1,7 +1,6 @@
 use Rattle.std.proofs.Common.{◌≡◌, List, false, true, Some, None, refl, sym, ap, ◌∙◌, subst}
 use Rattle.ax_text.specs.declared.vocabulary.TimerOp.{TimerOp}
 use Rattle.ax_text.specs.Run.{times_after}
-use Rattle.ax_machine.specs.Entries.{Key}
 use Rattle.ax_context.specs.declared.contexts.Context.{Context as Held}
 use Rattle.ax_context.specs.declared.contexts.Released.TheVariants as released
 use Rattle.ax_context.specs.Slots.{at}
@@ -9,8 +8,6 @@ use Rattle.ax_account.specs.Accounts.{waiting_of}
 use Rattle.ax_time.specs.Epochs.{Book}
 use Rattle.ax_time.specs.Timers.{PutsTimes, times_of}
 use Rattle.ax_core.specs.declared.record.Record.{Record}
-use Rattle.ax_core.specs.declared.effects.Effects.{Effects}
-use Rattle.ax_core.specs.declared.controller.Controller.{Controller}
 use Rattle.ax_core.specs.Callbacks.{ended, AllMayLeave}
 use Rattle.ax_core.specs.Calls.{CallEnds, MayEnd}
 use Rattle.ax_core.proofs.Ends.{has_held, held_has, has_at, call_waits, marks_leave, call_gives_up, live_is}
