@@ -17,8 +17,10 @@ use Rattle.ax_core.specs.declared.effects.Effects.{Effects}
 use Rattle.ax_core.specs.declared.effects.Ran.TheVariants as ran
 use Rattle.ax_core.specs.declared.controller.Controller.{Controller}
 use Rattle.ax_core.specs.Sound.{InRange, StandsFor, IsSound}
-use Rattle.ax_core.specs.Events.{SameRules, FiresNext, Runs, event_of}
+use Rattle.ax_core.specs.Events.{SameRules, FiresNext, Runs, event_of, KeysStay}
+use Rattle.ax_core.specs.Order.{RunsFirst}
 use Rattle.ax_core.specs.Calls.{MayStart, MayReply, Started, Replied}
+use Rattle.ax_core.proofs.CallOrder.{first_start, first_reply}
 use Rattle.ax_core.proofs.Fronts.{IsStartOf}
 use Rattle.ax_core.proofs.CalledRuns.{runs_start, runs_reply}
 use Rattle.ax_core.proofs.CallFlows.{Follows, follows_rules, follows_rooms, start_follows, reply_follows}
@@ -35,9 +37,11 @@ pub record HasRun (a b : Controller) (f : Effects) : Type 0 where
   pub same : SameRules a b
   pub outs : b.outs ≡ a.outs
   pub event : (m : MachineControl) → StandsFor a m → Runs a b f m
+  pub keys : KeysStay a b
+  pub order : (m : MachineControl) → StandsFor a m → RunsFirst a b f m
 
-has_run : (a b : Controller) (f : Effects) → IsSound a → Follows a b → ((m : MachineControl) → StandsFor a m → Runs a b f m) → HasRun a b f
-has_run a b f x follows runs =
+has_run : (a b : Controller) (f : Effects) → IsSound a → Follows a b → ((m : MachineControl) → StandsFor a m → Runs a b f m) → ((m : MachineControl) → StandsFor a m → Runs a b f m → RunsFirst a b f m) → HasRun a b f
+has_run a b f x follows runs first =
     let run : Runs a b f x.control = runs x.control x.stands in
     let next : (n : MachineControl) × StandsFor b n = stands_next a b f.fired (happens_on (shown_program a.program) (event_of f.key f.ran) None x.control) run.next in
     record {
@@ -45,6 +49,8 @@ has_run a b f x follows runs =
       same = follows_rules a b follows;
       outs = follows.outs;
       event = runs;
+      keys = follows.keys;
+      order = λ m y. first m y (runs m y);
     }
 
 -- each clause of it
@@ -64,6 +70,14 @@ pub run_event : (a b : Controller) (result : Result Effects NoMemory) → IfOk r
 run_event a b (Ok f) x = x.event
 run_event a b (Err e) x = tt
 
+pub run_keys : (a b : Controller) (result : Result Effects NoMemory) → IfOk result (HasRun a b) → OnOk result (KeysStay a b)
+run_keys a b (Ok f) x = x.keys
+run_keys a b (Err e) x = tt
+
+pub run_order : (a b : Controller) (result : Result Effects NoMemory) → IfOk result (HasRun a b) → IfOk result (λ f. (m : MachineControl) → StandsFor a m → RunsFirst a b f m)
+run_order a b (Ok f) x = x.order
+run_order a b (Err e) x = tt
+
 -- the mailbox behind the mail that was taken
 module _ (a : Controller) (x : IsSound a) (accepted : AreAccepted (shown_program a.program)) (fits : Fits64 a.epochs) (left : Queue) (room : left.room ≡ a.mails.room) (first : Mail) (taken : a.mails.mails ≡ first ∷ left.mails) (id : Id) where
   kept : record { mails = left.mails; room = a.mails.room } ≡ left
@@ -79,6 +93,7 @@ module _ (a : Controller) (x : IsSound a) (accepted : AreAccepted (shown_program
     pub start_has_run : (result : Result Effects NoMemory) → IsStartOf id first → IfOk result (λ f. Has a.contexts id (λ h. f.ran ≡ ran.Start h.number))
         → IfOk result (λ f. Has a.contexts id (Started (record a { mails = left }) b id f)) → IfOk result (HasRun a b)
     start_has_run (Ok f) starts said started = has_run a b f x (start_follows a id first left.mails x taken starts b f as_left) (runs_start a b first left.mails id f x accepted fits taken starts said as_left)
+        (λ m y runs. first_start a b id first left.mails f x taken m y runs starts said as_left)
       where
         as_left : Has a.contexts id (Started (behind_mail a left.mails) b id f)
         as_left = subst (λ (q : Queue). Has a.contexts id (Started (record a { mails = q }) b id f)) (sym kept) started
@@ -88,6 +103,7 @@ module _ (a : Controller) (x : IsSound a) (accepted : AreAccepted (shown_program
         → IfOk result (λ f. Has a.contexts id (Replied (record a { mails = left }) b id slot answer f)) → IfOk result (HasRun a b)
     reply_has_run (Ok f) slot answer replies said replied =
         has_run a b f x (reply_follows a id slot answer left.mails x (taken ∙ ap (λ (y : Mail). y ∷ left.mails) replies) b f as_left) (runs_reply a b first left.mails id f x accepted fits taken slot answer replies said as_left)
+        (λ m y runs. first_reply a b id first left.mails f x taken m y runs slot answer replies said as_left)
       where
         as_left : Has a.contexts id (Replied (behind_mail a left.mails) b id slot answer f)
         as_left = subst (λ (q : Queue). Has a.contexts id (Replied (record a { mails = q }) b id slot answer f)) (sym kept) replied

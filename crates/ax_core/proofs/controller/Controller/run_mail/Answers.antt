@@ -2,7 +2,7 @@ use Rattle.std.proofs.Common.{refl, sym, subst}
 use Rattle.ax_lang.specs.Shown.{shown_program}
 use Rattle.ax_execution.specs.Accepted.{AreAccepted}
 use Rattle.ax_core.proofs.Fronts.{IsStartOf}
-use Rattle.ax_core.proofs.MailRuns.{start_may, reply_may, start_has_run, reply_has_run, run_sound, run_same, run_outs, run_event}
+use Rattle.ax_core.proofs.MailRuns.{start_may, reply_may, start_has_run, reply_has_run, run_sound, run_same, run_outs, run_event, run_keys, run_order}
 use Rattle.ax_core.proofs.controller.Controller.run_mail.Goals as goal
 
 pub run_start-requires : goal.run_start-requires
@@ -44,6 +44,18 @@ returns-in-Some-Start-clause-event c =
     run_event c.args.self.now c.run_start.new.self c.run_start.result
     (start_has_run c.args.self.now c.requires.sound accepted c.sizes_law.ensures c.take.new.self c.take.ensures.room c.in-Some-Start.field-0 c.in-Some-Start.ensures.mails c.in-Some-Start.id c.run_start.new.self c.run_start.result (subst (IsStartOf c.in-Some-Start.id) (sym c.in-Some-Start.field-0-is) refl) c.run_start.ensures.ran c.run_start.ensures.started)
 
+pub returns-in-Some-Start-clause-keys : goal.returns-in-Some-Start-clause-keys
+returns-in-Some-Start-clause-keys c =
+    let accepted : AreAccepted (shown_program c.args.self.now.program) = record { row = c.program_is_accepted.ensures.row c.args.self.now.program; timer = c.program_is_accepted.ensures.timer c.args.self.now.program } in
+    run_keys c.args.self.now c.run_start.new.self c.run_start.result
+    (start_has_run c.args.self.now c.requires.sound accepted c.sizes_law.ensures c.take.new.self c.take.ensures.room c.in-Some-Start.field-0 c.in-Some-Start.ensures.mails c.in-Some-Start.id c.run_start.new.self c.run_start.result (subst (IsStartOf c.in-Some-Start.id) (sym c.in-Some-Start.field-0-is) refl) c.run_start.ensures.ran c.run_start.ensures.started)
+
+pub returns-in-Some-Start-clause-order : goal.returns-in-Some-Start-clause-order
+returns-in-Some-Start-clause-order c =
+    let accepted : AreAccepted (shown_program c.args.self.now.program) = record { row = c.program_is_accepted.ensures.row c.args.self.now.program; timer = c.program_is_accepted.ensures.timer c.args.self.now.program } in
+    run_order c.args.self.now c.run_start.new.self c.run_start.result
+    (start_has_run c.args.self.now c.requires.sound accepted c.sizes_law.ensures c.take.new.self c.take.ensures.room c.in-Some-Start.field-0 c.in-Some-Start.ensures.mails c.in-Some-Start.id c.run_start.new.self c.run_start.result (subst (IsStartOf c.in-Some-Start.id) (sym c.in-Some-Start.field-0-is) refl) c.run_start.ensures.ran c.run_start.ensures.started)
+
 pub returns-in-Some-Fire-clause-sound : goal.returns-in-Some-Fire-clause-sound
 returns-in-Some-Fire-clause-sound c =
     let accepted : AreAccepted (shown_program c.args.self.now.program) = record { row = c.program_is_accepted.ensures.row c.args.self.now.program; timer = c.program_is_accepted.ensures.timer c.args.self.now.program } in
@@ -68,6 +80,18 @@ returns-in-Some-Fire-clause-event c =
     run_event c.args.self.now c.run_start-in-Some-Fire.new.self c.run_start-in-Some-Fire.result
     (start_has_run c.args.self.now c.requires.sound accepted c.sizes_law.ensures c.take.new.self c.take.ensures.room c.in-Some-Fire.field-0 c.in-Some-Fire.ensures.mails c.in-Some-Fire.id c.run_start-in-Some-Fire.new.self c.run_start-in-Some-Fire.result (subst (IsStartOf c.in-Some-Fire.id) (sym c.in-Some-Fire.field-0-is) refl) c.run_start-in-Some-Fire.ensures.ran c.run_start-in-Some-Fire.ensures.started)
 
+pub returns-in-Some-Fire-clause-keys : goal.returns-in-Some-Fire-clause-keys
+returns-in-Some-Fire-clause-keys c =
+    let accepted : AreAccepted (shown_program c.args.self.now.program) = record { row = c.program_is_accepted.ensures.row c.args.self.now.program; timer = c.program_is_accepted.ensures.timer c.args.self.now.program } in
+    run_keys c.args.self.now c.run_start-in-Some-Fire.new.self c.run_start-in-Some-Fire.result
+    (start_has_run c.args.self.now c.requires.sound accepted c.sizes_law.ensures c.take.new.self c.take.ensures.room c.in-Some-Fire.field-0 c.in-Some-Fire.ensures.mails c.in-Some-Fire.id c.run_start-in-Some-Fire.new.self c.run_start-in-Some-Fire.result (subst (IsStartOf c.in-Some-Fire.id) (sym c.in-Some-Fire.field-0-is) refl) c.run_start-in-Some-Fire.ensures.ran c.run_start-in-Some-Fire.ensures.started)
+
+pub returns-in-Some-Fire-clause-order : goal.returns-in-Some-Fire-clause-order
+returns-in-Some-Fire-clause-order c =
+    let accepted : AreAccepted (shown_program c.args.self.now.program) = record { row = c.program_is_accepted.ensures.row c.args.self.now.program; timer = c.program_is_accepted.ensures.timer c.args.self.now.program } in
+    run_order c.args.self.now c.run_start-in-Some-Fire.new.self c.run_start-in-Some-Fire.result
+    (start_has_run c.args.self.now c.requires.sound accepted c.sizes_law.ensures c.take.new.self c.take.ensures.room c.in-Some-Fire.field-0 c.in-Some-Fire.ensures.mails c.in-Some-Fire.id c.run_start-in-Some-Fire.new.self c.run_start-in-Some-Fire.result (subst (IsStartOf c.in-Some-Fire.id) (sym c.in-Some-Fire.field-0-is) refl) c.run_start-in-Some-Fire.ensures.ran c.run_start-in-Some-Fire.ensures.started)
+
 pub returns-in-Some-Reply-clause-sound : goal.returns-in-Some-Reply-clause-sound
 returns-in-Some-Reply-clause-sound c =
     let accepted : AreAccepted (shown_program c.args.self.now.program) = record { row = c.program_is_accepted.ensures.row c.args.self.now.program; timer = c.program_is_accepted.ensures.timer c.args.self.now.program } in
@@ -90,4 +114,16 @@ pub returns-in-Some-Reply-clause-event : goal.returns-in-Some-Reply-clause-event
 returns-in-Some-Reply-clause-event c =
     let accepted : AreAccepted (shown_program c.args.self.now.program) = record { row = c.program_is_accepted.ensures.row c.args.self.now.program; timer = c.program_is_accepted.ensures.timer c.args.self.now.program } in
     run_event c.args.self.now c.run_reply.new.self c.run_reply.result
+    (reply_has_run c.args.self.now c.requires.sound accepted c.sizes_law.ensures c.take.new.self c.take.ensures.room c.in-Some-Reply.field-0 c.in-Some-Reply.ensures.mails c.in-Some-Reply.id c.run_reply.new.self c.run_reply.result c.in-Some-Reply.slot c.in-Some-Reply.answer c.in-Some-Reply.field-0-is c.run_reply.ensures.ran c.run_reply.ensures.replied)
+
+pub returns-in-Some-Reply-clause-keys : goal.returns-in-Some-Reply-clause-keys
+returns-in-Some-Reply-clause-keys c =
+    let accepted : AreAccepted (shown_program c.args.self.now.program) = record { row = c.program_is_accepted.ensures.row c.args.self.now.program; timer = c.program_is_accepted.ensures.timer c.args.self.now.program } in
+    run_keys c.args.self.now c.run_reply.new.self c.run_reply.result
+    (reply_has_run c.args.self.now c.requires.sound accepted c.sizes_law.ensures c.take.new.self c.take.ensures.room c.in-Some-Reply.field-0 c.in-Some-Reply.ensures.mails c.in-Some-Reply.id c.run_reply.new.self c.run_reply.result c.in-Some-Reply.slot c.in-Some-Reply.answer c.in-Some-Reply.field-0-is c.run_reply.ensures.ran c.run_reply.ensures.replied)
+
+pub returns-in-Some-Reply-clause-order : goal.returns-in-Some-Reply-clause-order
+returns-in-Some-Reply-clause-order c =
+    let accepted : AreAccepted (shown_program c.args.self.now.program) = record { row = c.program_is_accepted.ensures.row c.args.self.now.program; timer = c.program_is_accepted.ensures.timer c.args.self.now.program } in
+    run_order c.args.self.now c.run_reply.new.self c.run_reply.result
     (reply_has_run c.args.self.now c.requires.sound accepted c.sizes_law.ensures c.take.new.self c.take.ensures.room c.in-Some-Reply.field-0 c.in-Some-Reply.ensures.mails c.in-Some-Reply.id c.run_reply.new.self c.run_reply.result c.in-Some-Reply.slot c.in-Some-Reply.answer c.in-Some-Reply.field-0-is c.run_reply.ensures.ran c.run_reply.ensures.replied)
