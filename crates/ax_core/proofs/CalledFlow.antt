@@ -24,6 +24,7 @@ use Rattle.ax_core.specs.Contexts.{same_id, waits_at}
 use Rattle.ax_core.specs.Flow.{shard_of, one_if, queued_as, named_as, answers_as, answered_as, starts_as, started_as, in_queues, in_outs, waits_for, is_owner, is_to_start, OwnsBegun, OwnsOnceBegun, QueuedStands, OutStands, out_of, IsFlow}
 use Rattle.ax_core.specs.Callbacks.{items_for, IsQueued, with_start}
 use Rattle.ax_core.specs.Events.{key_in, KeysStay}
+use Rattle.ax_core.specs.Order.{number_at}
 use Rattle.ax_core.proofs.AskLemmas.{shards_stay}
 use Rattle.ax_core.proofs.CalledLemmas.{others_queued, same_outs, post_answered}
 use Rattle.ax_core.proofs.Flows.{same_self, same_is, other_ids}
@@ -92,6 +93,7 @@ pub record FlowsOn (old new : Controller) (id : Id) (key : Key) (asks : List Ask
   pub owned : owner_of old.accounts key ≡ Some id
   pub waited : waits_at old.program (at old.contexts id) ≡ was
   pub left : Left new id key xs (at new.contexts id)
+  pub number : (at new.contexts id ≡ None → ⊥) → number_at new id ≡ number_at old id
   pub others : OthersStay old.contexts new.contexts id
   pub program : new.program ≡ old.program
   pub settings : new.settings ≡ old.settings

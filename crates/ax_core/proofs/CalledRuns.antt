@@ -26,7 +26,7 @@ use Rattle.ax_mailbox.specs.declared.mail.Mail.TheVariants as mail
 use Rattle.ax_time.specs.Epochs.{Book, Fits64}
 use Rattle.ax_time.specs.Timers.{times_of}
 use Rattle.ax_execution.specs.Accepted.{AreAccepted}
-use Rattle.ax_execution.specs.Contexts.{Context, Waiting, Row, Mark, owners, is_idle_with}
+use Rattle.ax_execution.specs.Contexts.{owners}
 use Rattle.ax_execution.specs.KeyControls.{KeyControl}
 use Rattle.ax_execution.specs.Machine.{Happening, Start, Deliver}
 use Rattle.ax_execution.specs.Allowed.{MayFireNow}
@@ -44,7 +44,7 @@ use Rattle.ax_core.specs.declared.effects.Ran.{Ran}
 use Rattle.ax_core.specs.declared.effects.Ran.TheVariants as ran
 use Rattle.ax_core.specs.declared.effects.Effects.{Effects}
 use Rattle.ax_core.specs.declared.controller.Controller.{Controller}
-use Rattle.ax_core.specs.Keys.{OwnerStands, ItemsStand, PartStands, KeyStands}
+use Rattle.ax_core.specs.Keys.{PartStands, KeyStands}
 use Rattle.ax_core.specs.Flow.{on_the_way}
 use Rattle.ax_core.specs.Epochs.{EpochsStand}
 use Rattle.ax_core.specs.Stands.{Stands}
@@ -59,7 +59,7 @@ use Rattle.ax_core.proofs.CalledStands.{times_behind, control_behind, call_behin
 use Rattle.ax_core.proofs.EventLemmas.{posted}
 use Rattle.ax_core.proofs.Fronts.{IsStartOf}
 use Rattle.ax_core.proofs.FiresStand.{StandsBut, fires_as_told}
-use Rattle.ax_core.proofs.Open.{idle_stands}
+use Rattle.ax_core.proofs.Open.{idle_as, idle_stands}
 use Rattle.ax_core.proofs.TimerLemmas.{puts_at}
 
 true_false : {A : Type 0} → true ≡ false → A
@@ -68,23 +68,7 @@ true_false e = absurd (cc e)
 false_true : {A : Type 0} → false ≡ true → A
 false_true e = absurd (cc e)
 
--- ---- a key is idle in the control where it is so in the accounts
-
-idle_as : (p : Program) (ms : List Mail) (s : Slots Record) (key : Key) (part : Part) (due : List ℤ) (c : KeyControl) → PartStands p ms s key part due c → is_idle_on c ≡ may_idle part
-idle_as p ms s key part due c h = of part.owner part.waiting c.owner c.waiting h.owner h.items
-  where
-    of : (o : Option Id) (is : List Item) (d : Option Context) (ws : List Waiting) → OwnerStands p ms s key o d → ItemsStand p ms s key is ws → is_idle_with d ws ≡ (is_none o && is_mark (next_of is))
-    of None is (Some d) ws x y = absurd x
-    of (Some i) is None ws x y = absurd x
-    of (Some i) is (Some d) ws x y = refl
-    of None [] None [] x y = refl
-    of None [] None (w ∷ ws) x y = absurd y
-    of None (i ∷ is) None [] x y = absurd y
-    of None (item.Row i ∷ is) None (Row n f facts ∷ ws) x y = refl
-    of None (item.Row i ∷ is) None (Mark f w more ∷ ws) x y = absurd y.0
-    of None (item.Mark u v fired ∷ is) None (Row n f facts ∷ ws) x y = absurd y.0
-    of None (item.Mark u v fired ∷ is) None (Mark f w more ∷ ws) x y = refl
-
+-- a key that is handed over is idle where a mark is in front
 taken_idle : (is : List Item) → may_idle (taken_up is) ≡ is_mark (next_of is)
 taken_idle [] = refl
 taken_idle (item.Row i ∷ is) = refl

@@ -1,5 +1,5 @@
 -- A mail in front names a context that may be called.
-use Rattle.std.proofs.Common.{◌≡◌, ℕ, ◌+◌, ◌≤◌, ◌<◌, Bool, true, false, List, [], ◌∷◌, length, Option, Some, None, IsSome, IsSomeAnd, refl, sym, ap, ◌∙◌, subst, arith}
+use Rattle.std.proofs.Common.{◌≡◌, ℕ, ◌+◌, ◌≤◌, ◌<◌, Bool, true, false, List, ◌∷◌, length, Option, Some, None, IsSome, IsSomeAnd, refl, sym, ap, ◌∙◌, subst, arith}
 use Rattle.ax_text.specs.declared.vocabulary.Answer.{Answer}
 use Rattle.ax_text.specs.Programs.{program_width}
 use Rattle.ax_text.specs.Controls.{slots}

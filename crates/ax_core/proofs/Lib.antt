@@ -49,4 +49,5 @@ pub mod CalledFlow
 pub mod CallFlows
 pub mod MailRuns
 pub mod Orders
+pub mod CallOrder
 pub mod BatchFits
