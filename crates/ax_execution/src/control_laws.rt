@@ -3,12 +3,12 @@ ghost use Rattle.std.specs.Prelude.{◌≡◌, ℕ, ◌+◌, ◌≤◌, ◌<◌,
 ghost use Rattle.ax_text.specs.declared.vocabulary.Answer.{Answer};
 ghost use Rattle.ax_text.specs.Programs.{Program};
 ghost use Rattle.ax_text.specs.Controls.{slots};
-ghost use Rattle.ax_text.specs.Underway.{SlotsRise};
+ghost use Rattle.ax_text.specs.Underway.{SlotsRise, Differ};
 ghost use Rattle.ax_machine.specs.Entries.{Key};
 ghost use Rattle.ax_execution.specs.Accepted.{AreAccepted};
 ghost use Rattle.ax_execution.specs.Asks.{owner_waits, waits_behind, AreOutside, slots_beside};
 ghost use Rattle.ax_execution.specs.Contexts.{Running, Begun, Context};
-ghost use Rattle.ax_execution.specs.Counts.{references, AreDistinct, one_if_gone, made, made_as, counted};
+ghost use Rattle.ax_execution.specs.Counts.{references, one_if_gone, made, made_as, counted};
 ghost use Rattle.ax_execution.specs.Origins.{Origin, IsOrigin};
 ghost use Rattle.ax_execution.specs.Machine.{Closed, Happening, Start, Deliver, Rules, machine_from, machine_of};
 ghost use Rattle.ax_execution.specs.Allowed.{IsRun};
@@ -81,7 +81,7 @@ pub fn reached_events_are_decided()
 /// given up exactly at the event that leaves none.
 pub fn reached_references_are_counted()
     ensures slots { (r : Rules) (p : Program) (m : MachineControl) (k : Key) (c : Context) (running : Running) → AreAccepted p → IsReached r p m
-        → (m.controls k).owner ≡ Some c → c.stage ≡ Begun running → AreDistinct (slots running.control) }
+        → (m.controls k).owner ≡ Some c → c.stage ≡ Begun running → Differ (slots running.control) }
     ensures referred { (r : Rules) (p : Program) (m : MachineControl) (k : Key) (c : Context) → AreAccepted p → IsReached r p m → (m.controls k).owner ≡ Some c → 0 < references c.stage }
     ensures live { (r : Rules) (p : Program) (m : MachineControl) (n : ℕ) → AreAccepted p → IsReached r p m
         → (number_count_on n m ≡ 0 → reference_count_on n m ≡ 0) × (reference_count_on n m ≡ 0 → number_count_on n m ≡ 0) }

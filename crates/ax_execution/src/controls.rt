@@ -4,6 +4,7 @@ ghost use Rattle.ax_text.specs.declared.vocabulary.Answer.{Answer};
 ghost use Rattle.ax_text.specs.declared.vocabulary.Request.{Request};
 ghost use Rattle.ax_text.specs.Cells.{Cells, cells_after};
 ghost use Rattle.ax_text.specs.Programs.{Program};
+ghost use Rattle.ax_text.specs.Underway.{Differ};
 ghost use Rattle.ax_text.specs.Controls.{request_at, slots};
 ghost use Rattle.ax_machine.specs.Entries.{Key};
 ghost use Rattle.ax_execution.specs.Accepted.{AreAccepted};
@@ -11,7 +12,7 @@ ghost use Rattle.ax_execution.specs.Sums.{total};
 ghost use Rattle.ax_execution.specs.Contexts.{Running, Begun, Context};
 ghost use Rattle.ax_execution.specs.Origins.{Origin, IsOrigin};
 ghost use Rattle.ax_execution.specs.Machine.{Machine, Happening, Start, Serve, Deliver, Rules, must_fire, happens, after_all, outcome, machine_from, machine_of, in_flight, work};
-ghost use Rattle.ax_execution.specs.Counts.{AreDistinct, epoch_count, number_count, reference_count, one_if_gone, made, made_as, counted};
+ghost use Rattle.ax_execution.specs.Counts.{epoch_count, number_count, reference_count, one_if_gone, made, made_as, counted};
 ghost use Rattle.ax_execution.specs.Allowed.{Allowed, IsRun};
 ghost use Rattle.ax_execution.specs.Tests.{allowed};
 ghost use Rattle.ax_execution.specs.ControlTurns.{contexts_on};
@@ -28,12 +29,13 @@ pub fn control_goes_by_itself()
     ensures origin { (from : Origin) → control_of_machine (machine_from from) ≡ at_origin from }
 {}
 
-/// What an event does besides is seen of the control: the lines that it writes, the requests that it asks and whether a context is
-/// given up. Of the marker that it sends only the text takes more.
+/// What an event does besides is seen of the control: the lines that it writes, the requests that it asks, whether a context is given
+/// up and which key must fire. Of the marker that it sends only the text takes more.
 pub fn outcomes_see_the_control()
     ensures entries { (g : ℕ) (p : Program) (e : Happening) (m : Machine) → (outcome g p e m).entries ≡ (outcome_on p e (control_of_machine m)).lines ++ sent_entries g p (outcome_on p e (control_of_machine m)).sent m }
     ensures asks { (g : ℕ) (p : Program) (e : Happening) (m : Machine) → (outcome g p e m).asks ≡ (outcome_on p e (control_of_machine m)).asks }
     ensures gone { (g : ℕ) (p : Program) (e : Happening) (m : Machine) → (outcome g p e m).gone ≡ (outcome_on p e (control_of_machine m)).gone }
+    ensures fires { (g : ℕ) (p : Program) (e : Happening) (m : Machine) → (outcome g p e m).fires ≡ (outcome_on p e (control_of_machine m)).fires }
 {}
 
 /// Whether an event is allowed is seen of the control, and so is whether events are a run, once each serve has its answer.
@@ -86,7 +88,7 @@ pub fn controls_stay_in_order()
 pub fn handlers_stay_sound()
     ensures origin { (from : Origin) → AreSound (at_origin from) }
     ensures event { (r : Rules) (p : Program) (e : Happening) (a : Option Answer) (m : MachineControl) → AreAccepted p → AreSound m → AllowedOn r e m → AreSound (happens_on p e a m) }
-    ensures slots { (running : Running) → IsSoundRunning running → AreDistinct (slots running.control) }
+    ensures slots { (running : Running) → IsSoundRunning running → Differ (slots running.control) }
     ensures run { (r : Rules) (g : ℕ) (p : Program) (from : Origin) (es : List Happening) → AreAccepted p → IsOrigin p from → IsRun r g p es (machine_from from)
         → AreSound (control_of_machine (machine_of g p from es)) }
 {}
@@ -123,7 +125,8 @@ pub fn epochs_gain_and_lose()
         ≡ epoch_count u (machine_of g p from es) + enters u e (control_of_machine (machine_of g p from es)) }
 {}
 
-/// Behind a callback its key must fire exactly where it is idle there, and behind any other event that is allowed no key must.
+/// Behind a callback its key must fire exactly where it is idle there, and behind any other event that is allowed no key must. The outcome
+/// says which.
 pub fn callbacks_say_who_must_fire()
     ensures start { (p : Program) (k : Key) (a : Option Answer) (m : MachineControl) → (happens_on p (Start k) a m).must ≡ must_fire_on k ((happens_on p (Start k) a m).controls k) }
     ensures deliver { (p : Program) (k : Key) (slot : ℕ) (a : Option Answer) (m : MachineControl) → (happens_on p (Deliver k slot) a m).must ≡ must_fire_on k ((happens_on p (Deliver k slot) a m).controls k) }
@@ -133,6 +136,10 @@ pub fn callbacks_say_who_must_fire()
     ensures machine_deliver { (g : ℕ) (p : Program) (k : Key) (slot : ℕ) (m : Machine) → (happens g p (Deliver k slot) m).must ≡ must_fire k ((happens g p (Deliver k slot) m).parts k) }
     ensures machine_none { (r : Rules) (g : ℕ) (p : Program) (e : Happening) (m : Machine) → Allowed r e m
         → ((k : Key) → e ≡ Start k → ⊥) → ((k : Key) (slot : ℕ) → e ≡ Deliver k slot → ⊥) → (happens g p e m).must ≡ None }
+    ensures says { (r : Rules) (p : Program) (e : Happening) (a : Option Answer) (m : MachineControl) → AllowedOn r e m → (outcome_on p e m).fires ≡ (happens_on p e a m).must }
+    ensures says_none { (p : Program) (e : Happening) (m : MachineControl) → ((k : Key) → e ≡ Start k → ⊥) → ((k : Key) (slot : ℕ) → e ≡ Deliver k slot → ⊥) → (outcome_on p e m).fires ≡ None }
+    ensures machine_says { (r : Rules) (g : ℕ) (p : Program) (e : Happening) (m : Machine) → Allowed r e m → (outcome g p e m).fires ≡ (happens g p e m).must }
+    ensures machine_says_none { (g : ℕ) (p : Program) (e : Happening) (m : Machine) → ((k : Key) → e ≡ Start k → ⊥) → ((k : Key) (slot : ℕ) → e ≡ Deliver k slot → ⊥) → (outcome g p e m).fires ≡ None }
 {}
 
 /// The work left is computed from the control and the cells alone, and over any rising keys that hold the busy ones.

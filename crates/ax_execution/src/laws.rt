@@ -25,9 +25,9 @@ ghost use Rattle.ax_execution.specs.Turns.{admit, mark, fire, start, serve, deli
 ghost use Rattle.ax_execution.specs.Rest.{rest_world, settled, silent_part, owed, part_work};
 ghost use Rattle.ax_execution.specs.Machine.{Machine, Happening, Start, Serve, Deliver, Rules, happens, outcome, taken, machine_from, machine_of, in_flight, work, IsAtRest, IsWork};
 ghost use Rattle.ax_execution.specs.Allowed.{NoneIsIdle, IsFinished, Allowed, IsRun};
-ghost use Rattle.ax_execution.specs.Counts.{AreDistinct, one_if_gone, references, reference_count, epoch_count, number_count, made, made_as, calls, counted};
+ghost use Rattle.ax_execution.specs.Counts.{one_if_gone, references, reference_count, epoch_count, number_count, made, made_as, calls, counted};
 ghost use Rattle.ax_execution.specs.Merges.{merge, firings_at};
-ghost use Rattle.ax_text.specs.Underway.{SlotsRise};
+ghost use Rattle.ax_text.specs.Underway.{SlotsRise, Differ};
 ghost use Rattle.ax_execution.specs.Asks.{owner_waits, waits_behind, AreOutside, slots_beside};
 ghost use Rattle.ax_execution.specs.Tests.{allowed, runs};
 
@@ -130,7 +130,7 @@ pub fn references_are_counted()
     ensures unbegun { references Unbegun ≡ 1 }
     ensures waiting { (running : Running) → references (Begun running) ≡ length (waiting running.control) }
     ensures slots { (r : Rules) (g : ℕ) (p : Program) (from : Origin) (es : List Happening) (k : Key) (c : Context) (running : Running) → AreAccepted p → IsOrigin p from → IsRun r g p es (machine_from from)
-        → ((machine_of g p from es).parts k).owner ≡ Some c → c.stage ≡ Begun running → AreDistinct (slots running.control) }
+        → ((machine_of g p from es).parts k).owner ≡ Some c → c.stage ≡ Begun running → Differ (slots running.control) }
     ensures answers { (r : Rules) (g : ℕ) (p : Program) (from : Origin) (es : List Happening) (k : Key) (c : Context) (running : Running) (slot : ℕ) → AreAccepted p → IsOrigin p from → IsRun r g p es (machine_from from)
         → ((machine_of g p from es).parts k).owner ≡ Some c → c.stage ≡ Begun running → has slot (slots running.control) ≡ false → running.answers slot ≡ None }
     ensures changes { (r : Rules) (g : ℕ) (p : Program) (from : Origin) (es : List Happening) (e : Happening) (n : ℕ) → AreAccepted p → IsOrigin p from → IsRun r g p es (machine_from from) → Allowed r e (machine_of g p from es)

@@ -2,7 +2,8 @@ use Rattle.std.proofs.Common.{[], ◌∷◌, ◌++◌, refl, subst}
 use Rattle.ax_execution.specs.Machine.{happens, machine_of, taken}
 use Rattle.ax_execution.proofs.Alone.{Alone, goes_as_alone, event_alone}
 use Rattle.ax_execution.proofs.GivenUp.{asked_length, references_change, stage_good}
-use Rattle.ax_execution.proofs.References.{distinct_slots, none_referred, none_numbered, gone_unreferred, unreferred_gone}
+use Rattle.ax_text.proofs.Slots.{split_differ}
+use Rattle.ax_execution.proofs.References.{none_referred, none_numbered, gone_unreferred, unreferred_gone}
 use Rattle.ax_execution.proofs.Handlers.{Good, handles}
 use Rattle.ax_execution.proofs.Numbers.{always_apart}
 use Rattle.ax_execution.proofs.Orderly.{IsOrderly, always_orderly, event_orderly, keys_rise}
@@ -17,7 +18,7 @@ returns-clause-waiting c running = asked_length running.control
 
 pub returns-clause-slots : goal.returns-clause-slots
 returns-clause-slots c r g p from es k it running accepted fits run owner stage =
-    distinct_slots running.control (stage_good it running (subst (OwnerGood Good) owner ((goes_as_alone g p Good (handles p accepted) from fits r es run).good k)) stage).split
+    split_differ running.control (stage_good it running (subst (OwnerGood Good) owner ((goes_as_alone g p Good (handles p accepted) from fits r es run).good k)) stage).split
 
 pub returns-clause-answers : goal.returns-clause-answers
 returns-clause-answers c r g p from es k it running slot accepted fits run owner stage free =
