@@ -93,18 +93,6 @@ pub fn handlers_stay_sound()
         → AreSound (control_of_machine (machine_of g p from es)) }
 {}
 
-/// In a control that is in order and whose handlers are sound, Admit and Fire make one context, one is given up exactly where the outcome
-/// says so, and references rise by what is asked and fall by one as a callback ends. Nothing else changes how many contexts are in flight
-/// or have a number, nor their references.
-pub fn contexts_come_and_go()
-    ensures flight { (r : Rules) (p : Program) (e : Happening) (a : Option Answer) (m : MachineControl) → IsInOrder r m → AreSound m → AllowedOn r e m
-        → in_flight_on (happens_on p e a m) + one_if_gone (outcome_on p e m).gone ≡ in_flight_on m + made e }
-    ensures numbers { (r : Rules) (p : Program) (n : ℕ) (e : Happening) (a : Option Answer) (m : MachineControl) → IsInOrder r m → AreSound m → AllowedOn r e m
-        → number_count_on n (happens_on p e a m) + counted (calls_on n e m) (one_if_gone (outcome_on p e m).gone) ≡ number_count_on n m + made_as n e }
-    ensures references { (r : Rules) (p : Program) (n : ℕ) (e : Happening) (a : Option Answer) (m : MachineControl) → IsInOrder r m → AreSound m → AllowedOn r e m
-        → reference_count_on n (happens_on p e a m) + counted (calls_on n e m) 1 ≡ reference_count_on n m + (made_as n e + counted (calls_on n e m) (length (outcome_on p e m).asks)) }
-{}
-
 /// Only a serve changes cells, and only those of its key: by what is asked at its slot.
 pub fn only_serves_change_cells()
     ensures others { (g : ℕ) (p : Program) (e : Happening) (m : Machine) (k : Key) → ((slot : ℕ) → e ≡ Serve k slot → ⊥) → ((happens g p e m).parts k).said.state.cells ≡ (m.parts k).said.state.cells }
