@@ -13,6 +13,7 @@ ghost use Rattle.ax_execution.specs.Contexts.{Running, Begun, Context};
 ghost use Rattle.ax_execution.specs.Origins.{Origin, IsOrigin};
 ghost use Rattle.ax_execution.specs.Machine.{Machine, Happening, Start, Serve, Deliver, Rules, must_fire, happens, after_all, outcome, machine_from, machine_of, in_flight, work};
 ghost use Rattle.ax_execution.specs.Counts.{epoch_count, number_count, reference_count, one_if_gone, made, made_as, counted};
+ghost use Rattle.ax_execution.specs.Runs.{AcceptedRun, end_of, end_with, outcome_at};
 ghost use Rattle.ax_execution.specs.Allowed.{Allowed, IsRun};
 ghost use Rattle.ax_execution.specs.Tests.{allowed};
 ghost use Rattle.ax_execution.specs.ControlTurns.{contexts_on};
@@ -61,8 +62,7 @@ pub fn busy_keys_are_enough()
     ensures epochs { (u : ℕ) (ks : List Key) (m : MachineControl) → HoldBusy ks m → HoldBusy m.keys m → total ks (λ k. control_of_epoch u (m.controls k)) ≡ epoch_count_on u m }
     ensures numbers { (n : ℕ) (ks : List Key) (m : MachineControl) → HoldBusy ks m → HoldBusy m.keys m → total ks (λ k. control_numbered n (m.controls k)) ≡ number_count_on n m }
     ensures references { (n : ℕ) (ks : List Key) (m : MachineControl) → HoldBusy ks m → HoldBusy m.keys m → total ks (λ k. control_references n (m.controls k)) ≡ reference_count_on n m }
-    ensures keys { (r : Rules) (g : ℕ) (p : Program) (from : Origin) (es : List Happening) → AreAccepted p → IsOrigin p from → IsRun r g p es (machine_from from)
-        → HoldBusy (machine_of g p from es).keys (control_of_machine (machine_of g p from es)) }
+    ensures keys { (run : AcceptedRun) → HoldBusy (end_of run).keys (control_of_machine (end_of run)) }
 {}
 
 /// A control's keys are all that have an owner, something that waits or a timer: at an origin, and behind each event that is allowed. So they
@@ -79,8 +79,7 @@ pub fn keys_stay_all()
 pub fn controls_stay_in_order()
     ensures origin { (r : Rules) (p : Program) (from : Origin) → IsOrigin p from → IsInOrder r (at_origin from) }
     ensures event { (r : Rules) (p : Program) (e : Happening) (a : Option Answer) (m : MachineControl) → IsInOrder r m → AllowedOn r e m → IsInOrder r (happens_on p e a m) }
-    ensures run { (r : Rules) (g : ℕ) (p : Program) (from : Origin) (es : List Happening) → AreAccepted p → IsOrigin p from → IsRun r g p es (machine_from from)
-        → IsInOrder r (control_of_machine (machine_of g p from es)) }
+    ensures run { (run : AcceptedRun) → IsInOrder run.rules (control_of_machine (end_of run)) }
 {}
 
 /// Whatever answers come, the arms of a handler on its way stay apart and wait at different slots, it waits unless it is done, and answers
@@ -89,8 +88,7 @@ pub fn handlers_stay_sound()
     ensures origin { (from : Origin) → AreSound (at_origin from) }
     ensures event { (r : Rules) (p : Program) (e : Happening) (a : Option Answer) (m : MachineControl) → AreAccepted p → AreSound m → AllowedOn r e m → AreSound (happens_on p e a m) }
     ensures slots { (running : Running) → IsSoundRunning running → Differ (slots running.control) }
-    ensures run { (r : Rules) (g : ℕ) (p : Program) (from : Origin) (es : List Happening) → AreAccepted p → IsOrigin p from → IsRun r g p es (machine_from from)
-        → AreSound (control_of_machine (machine_of g p from es)) }
+    ensures run { (run : AcceptedRun) → AreSound (control_of_machine (end_of run)) }
 {}
 
 /// Only a serve changes cells, and only those of its key: by what is asked at its slot.
@@ -107,10 +105,10 @@ pub fn only_serves_change_cells()
 pub fn epochs_gain_and_lose()
     ensures control { (r : Rules) (p : Program) (u : ℕ) (e : Happening) (a : Option Answer) (m : MachineControl) → HoldBusy m.keys m → AllowedOn r e m
         → epoch_count_on u (happens_on p e a m) + leaves u e (outcome_on p e m).gone m (happens_on p e a m) ≡ epoch_count_on u m + enters u e m }
-    ensures run { (r : Rules) (g : ℕ) (p : Program) (from : Origin) (es : List Happening) (e : Happening) (u : ℕ) → AreAccepted p → IsOrigin p from → IsRun r g p es (machine_from from) → Allowed r e (machine_of g p from es)
-        → epoch_count u (happens g p e (machine_of g p from es))
-        + leaves u e (outcome g p e (machine_of g p from es)).gone (control_of_machine (machine_of g p from es)) (control_of_machine (happens g p e (machine_of g p from es)))
-        ≡ epoch_count u (machine_of g p from es) + enters u e (control_of_machine (machine_of g p from es)) }
+    ensures run { (run : AcceptedRun) (e : Happening) (u : ℕ) → Allowed run.rules e (end_of run)
+        → epoch_count u (end_with run e)
+        + leaves u e (outcome_at run e).gone (control_of_machine (end_of run)) (control_of_machine (end_with run e))
+        ≡ epoch_count u (end_of run) + enters u e (control_of_machine (end_of run)) }
 {}
 
 /// Behind a callback its key must fire exactly where it is idle there, and behind any other event that is allowed no key must. The outcome
