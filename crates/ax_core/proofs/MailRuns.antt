@@ -78,22 +78,31 @@ pub run_order : (a b : Controller) (result : Result Effects NoMemory) → IfOk r
 run_order a b (Ok f) x = x.order
 run_order a b (Err e) x = tt
 
--- the mailbox behind the mail that was taken
-module _ (a : Controller) (x : IsSound a) (accepted : AreAccepted (shown_program a.program)) (fits : Fits64 a.epochs) (left : Queue) (room : left.room ≡ a.mails.room) (first : Mail) (taken : a.mails.mails ≡ first ∷ left.mails) (id : Id) where
+-- a mail was taken from the mailbox of a sound controller
+pub record IsTaken (a : Controller) (left : Queue) (first : Mail) : Type 0 where
+  pub sound : IsSound a
+  pub accepted : AreAccepted (shown_program a.program)
+  pub fits : Fits64 a.epochs
+  pub mails : a.mails.mails ≡ first ∷ left.mails
+  pub room : left.room ≡ a.mails.room
+
+module _ (a : Controller) (left : Queue) (first : Mail) (taken : IsTaken a left first) (id : Id) where
   kept : record { mails = left.mails; room = a.mails.room } ≡ left
-  kept = ap (λ (n : ℕ). record { mails = left.mails; room = n }) (sym room)
+  kept = ap (λ (n : ℕ). record { mails = left.mails; room = n }) (sym taken.room)
 
   pub start_may : IsStartOf id first → MayStart (record a { mails = left }) id
-  start_may starts = subst (λ (q : Queue). MayStart (record a { mails = q }) id) kept (may_start a x first left.mails taken accepted fits id starts)
+  start_may starts = subst (λ (q : Queue). MayStart (record a { mails = q }) id) kept (may_start a taken.sound first left.mails taken.mails taken.accepted taken.fits id starts)
 
   pub reply_may : (slot : ℕ) (answer : Answer) → first ≡ mail.Reply id slot answer → MayReply (record a { mails = left }) id slot answer
-  reply_may slot answer replies = subst (λ (q : Queue). MayReply (record a { mails = q }) id slot answer) kept (may_reply a x first left.mails taken accepted fits id slot answer replies)
+  reply_may slot answer replies = subst (λ (q : Queue). MayReply (record a { mails = q }) id slot answer) kept (may_reply a taken.sound first left.mails taken.mails taken.accepted taken.fits id slot answer replies)
 
   module _ (b : Controller) where
     pub start_has_run : (result : Result Effects NoMemory) → IsStartOf id first → IfOk result (λ f. Has a.contexts id (λ h. f.ran ≡ ran.Start h.number))
         → IfOk result (λ f. Has a.contexts id (Started (record a { mails = left }) b id f)) → IfOk result (HasRun a b)
-    start_has_run (Ok f) starts said started = has_run a b f x (start_follows a id first left.mails x taken starts b f as_left) (runs_start a b first left.mails id f x accepted fits taken starts said as_left)
-        (λ m y runs. first_start a b id first left.mails f x taken m y runs starts said as_left)
+    start_has_run (Ok f) starts said started =
+        has_run a b f taken.sound (start_follows a id first left.mails taken.sound taken.mails starts b f as_left)
+        (runs_start a b first left.mails id f taken.sound taken.accepted taken.fits taken.mails starts said as_left)
+        (λ m y runs. first_start a b id first left.mails f taken.sound taken.mails m y runs starts said as_left)
       where
         as_left : Has a.contexts id (Started (behind_mail a left.mails) b id f)
         as_left = subst (λ (q : Queue). Has a.contexts id (Started (record a { mails = q }) b id f)) (sym kept) started
@@ -102,8 +111,9 @@ module _ (a : Controller) (x : IsSound a) (accepted : AreAccepted (shown_program
     pub reply_has_run : (result : Result Effects NoMemory) (slot : ℕ) (answer : Answer) → first ≡ mail.Reply id slot answer → IfOk result (λ f. Has a.contexts id (λ h. f.ran ≡ ran.Reply h.number slot))
         → IfOk result (λ f. Has a.contexts id (Replied (record a { mails = left }) b id slot answer f)) → IfOk result (HasRun a b)
     reply_has_run (Ok f) slot answer replies said replied =
-        has_run a b f x (reply_follows a id slot answer left.mails x (taken ∙ ap (λ (y : Mail). y ∷ left.mails) replies) b f as_left) (runs_reply a b first left.mails id f x accepted fits taken slot answer replies said as_left)
-        (λ m y runs. first_reply a b id first left.mails f x taken m y runs slot answer replies said as_left)
+        has_run a b f taken.sound (reply_follows a id slot answer left.mails taken.sound (taken.mails ∙ ap (λ (y : Mail). y ∷ left.mails) replies) b f as_left)
+        (runs_reply a b first left.mails id f taken.sound taken.accepted taken.fits taken.mails slot answer replies said as_left)
+        (λ m y runs. first_reply a b id first left.mails f taken.sound taken.mails m y runs slot answer replies said as_left)
       where
         as_left : Has a.contexts id (Replied (behind_mail a left.mails) b id slot answer f)
         as_left = subst (λ (q : Queue). Has a.contexts id (Replied (record a { mails = q }) b id slot answer f)) (sym kept) replied
