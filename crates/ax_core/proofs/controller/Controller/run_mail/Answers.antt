@@ -12,7 +12,8 @@ run_start-requires c =
       mails = c.in-Some-Start.ensures.mails;
       room = c.take.ensures.room;
     } in
-    start_may c.args.self.now c.take.new.self c.in-Some-Start.field-0 taken c.in-Some-Start.id (subst (IsStartOf c.in-Some-Start.id) (sym c.in-Some-Start.field-0-is) refl)
+    let starts : IsStartOf c.in-Some-Start.id c.in-Some-Start.field-0 = subst (IsStartOf c.in-Some-Start.id) (sym c.in-Some-Start.field-0-is) refl in
+    start_may c.args.self.now c.take.new.self c.in-Some-Start.field-0 taken c.in-Some-Start.id starts
 
 pub run_start-requires-in-Some-Fire : goal.run_start-requires-in-Some-Fire
 run_start-requires-in-Some-Fire c =
@@ -23,7 +24,8 @@ run_start-requires-in-Some-Fire c =
       mails = c.in-Some-Fire.ensures.mails;
       room = c.take.ensures.room;
     } in
-    start_may c.args.self.now c.take.new.self c.in-Some-Fire.field-0 taken c.in-Some-Fire.id (subst (IsStartOf c.in-Some-Fire.id) (sym c.in-Some-Fire.field-0-is) refl)
+    let starts : IsStartOf c.in-Some-Fire.id c.in-Some-Fire.field-0 = subst (IsStartOf c.in-Some-Fire.id) (sym c.in-Some-Fire.field-0-is) refl in
+    start_may c.args.self.now c.take.new.self c.in-Some-Fire.field-0 taken c.in-Some-Fire.id starts
 
 pub run_reply-requires : goal.run_reply-requires
 run_reply-requires c =
@@ -45,8 +47,9 @@ returns-in-Some-Start c =
       mails = c.in-Some-Start.ensures.mails;
       room = c.take.ensures.room;
     } in
+    let starts : IsStartOf c.in-Some-Start.id c.in-Some-Start.field-0 = subst (IsStartOf c.in-Some-Start.id) (sym c.in-Some-Start.field-0-is) refl in
     let run : IfOk c.run_start.result (HasRun c.args.self.now c.run_start.new.self) =
-    start_has_run c.args.self.now c.take.new.self c.in-Some-Start.field-0 taken c.in-Some-Start.id c.run_start.new.self c.run_start.result (subst (IsStartOf c.in-Some-Start.id) (sym c.in-Some-Start.field-0-is) refl) c.run_start.ensures.ran c.run_start.ensures.started in
+    start_has_run c.args.self.now c.take.new.self c.in-Some-Start.field-0 taken c.in-Some-Start.id c.run_start.new.self c.run_start.result starts c.run_start.ensures.ran c.run_start.ensures.started in
     record {
       sound = run_sound c.args.self.now c.run_start.new.self c.run_start.result run;
       same = run_same c.args.self.now c.run_start.new.self c.run_start.result run;
@@ -65,8 +68,9 @@ returns-in-Some-Fire c =
       mails = c.in-Some-Fire.ensures.mails;
       room = c.take.ensures.room;
     } in
+    let starts : IsStartOf c.in-Some-Fire.id c.in-Some-Fire.field-0 = subst (IsStartOf c.in-Some-Fire.id) (sym c.in-Some-Fire.field-0-is) refl in
     let run : IfOk c.run_start-in-Some-Fire.result (HasRun c.args.self.now c.run_start-in-Some-Fire.new.self) =
-    start_has_run c.args.self.now c.take.new.self c.in-Some-Fire.field-0 taken c.in-Some-Fire.id c.run_start-in-Some-Fire.new.self c.run_start-in-Some-Fire.result (subst (IsStartOf c.in-Some-Fire.id) (sym c.in-Some-Fire.field-0-is) refl) c.run_start-in-Some-Fire.ensures.ran c.run_start-in-Some-Fire.ensures.started in
+    start_has_run c.args.self.now c.take.new.self c.in-Some-Fire.field-0 taken c.in-Some-Fire.id c.run_start-in-Some-Fire.new.self c.run_start-in-Some-Fire.result starts c.run_start-in-Some-Fire.ensures.ran c.run_start-in-Some-Fire.ensures.started in
     record {
       sound = run_sound c.args.self.now c.run_start-in-Some-Fire.new.self c.run_start-in-Some-Fire.result run;
       same = run_same c.args.self.now c.run_start-in-Some-Fire.new.self c.run_start-in-Some-Fire.result run;
@@ -86,7 +90,8 @@ returns-in-Some-Reply c =
       room = c.take.ensures.room;
     } in
     let run : IfOk c.run_reply.result (HasRun c.args.self.now c.run_reply.new.self) =
-    reply_has_run c.args.self.now c.take.new.self c.in-Some-Reply.field-0 taken c.in-Some-Reply.id c.run_reply.new.self c.run_reply.result c.in-Some-Reply.slot c.in-Some-Reply.answer c.in-Some-Reply.field-0-is c.run_reply.ensures.ran c.run_reply.ensures.replied in
+    reply_has_run c.args.self.now c.take.new.self c.in-Some-Reply.field-0 taken c.in-Some-Reply.id c.run_reply.new.self c.run_reply.result
+    c.in-Some-Reply.slot c.in-Some-Reply.answer c.in-Some-Reply.field-0-is c.run_reply.ensures.ran c.run_reply.ensures.replied in
     record {
       sound = run_sound c.args.self.now c.run_reply.new.self c.run_reply.result run;
       same = run_same c.args.self.now c.run_reply.new.self c.run_reply.result run;
