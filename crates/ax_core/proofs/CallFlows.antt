@@ -71,9 +71,6 @@ use Rattle.ax_core.proofs.Replaced.{contains_none, replaced_keeps, replaced_has}
 use Rattle.ax_core.proofs.Sends.{accepted}
 use Rattle.ax_core.proofs.StartLemmas.{next_is, IsUnbegunOf, next_owns}
 
-true_false : true ≡ false → ⊥
-true_false e = cc e
-
 -- a key's shard is one of all
 pub shard_inside : (s : Settings) (key : Key) → InRange s → shard_of s key < s.shards
 shard_inside s key r = index_below (group key s.groups) s.groups s.shards r.shards.0.0 r.shards.1 (mod_below (spread (hash_of key)) s.groups r.shards.0.0)

@@ -1,5 +1,5 @@
 -- The order of requests and callbacks behind a callback.
-use Rattle.std.proofs.Common.{◌≡◌, ◌≢◌, ℕ, ◌+◌, ◌-◌, Bool, true, false, List, [], ◌∷◌, ◌++◌, map, length, get_or, Option, Some, None, IsSomeAnd, is_none, refl, sym, ap, ◌∙◌, subst, inl, inr, Contains, append-nil, append_assoc}
+use Rattle.std.proofs.Common.{◌≡◌, ◌≢◌, ℕ, ◌+◌, ◌-◌, Bool, true, false, List, [], ◌∷◌, ◌++◌, map, length, get_or, Option, Some, None, is_none, refl, sym, ap, ◌∙◌, subst, inl, inr, Contains, append-nil, append_assoc}
 use Rattle.std.specs.List.{slice_index_or}
 use Rattle.std.proofs.lemmas.List.{map-append}
 use Rattle.ax_text.specs.declared.vocabulary.Answer.{Answer}
@@ -48,6 +48,7 @@ use Rattle.ax_core.specs.Events.{event_of, number_of, FiresNext, Runs}
 use Rattle.ax_core.specs.Firings.{FiresAt}
 use Rattle.ax_core.specs.Order.{number_in, number_at, Asked, asked_by, queue_in, callback_by, callbacks_in, NumbersStay, Posts, asks_of, stage_begins, owner_begins, firing_begins, RunsFirst}
 use Rattle.ax_core.proofs.Called.{Calls, CallsBy, calls_start, calls_reply}
+use Rattle.ax_core.proofs.CalledRuns.{both_there}
 use Rattle.ax_core.proofs.CalledFlow.{WaitsFor, Left, FlowsOn, flow_on}
 use Rattle.ax_core.proofs.CallFlows.{CallsAt, Behind, ran as after_run, held as as_held, more as with_more, done_behind, waits_on, hands_on, start_calls, reply_calls}
 use Rattle.ax_core.proofs.Flows.{same_self, same_is, other_ids}
@@ -250,10 +251,6 @@ module _ (old : Controller) (id : Id) (m : Mail) (ns : List Mail) (s : Slots Rec
     others = λ other differ. order.others other (λ e. differ (e ∙ ap (shard_of old.settings) (sym ends.key)));
     numbers = order.numbers;
   }
-
-both_there : {X : Type 0} {P Q : X → Type 0} {R : Type 0} (o : Option X) → IsSomeAnd o P → IsSomeAnd o Q → ((y : X) → o ≡ Some y → P y → Q y → R) → R
-both_there None p q go = absurd p
-both_there (Some y) p q go = go y refl p q
 
 start_said : (old : Controller) (id : Id) (m : Mail) → IsStartOf id m → callback_by old m ≡ ran.Start (number_at old id)
 start_said old id (mail.Start i) e = ap (λ (j : Id). ran.Start (number_at old j)) e

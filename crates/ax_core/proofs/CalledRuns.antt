@@ -341,7 +341,7 @@ module _ (a : Controller) (m : MachineControl) (first : Mail) (ns : List Mail) (
 
 -- ---- the mails
 
-both_there : {X : Type 0} {P Q : X → Type 0} {R : Type 0} (o : Option X) → IsSomeAnd o P → IsSomeAnd o Q → ((y : X) → o ≡ Some y → P y → Q y → R) → R
+pub both_there : {X : Type 0} {P Q : X → Type 0} {R : Type 0} (o : Option X) → IsSomeAnd o P → IsSomeAnd o Q → ((y : X) → o ≡ Some y → P y → Q y → R) → R
 both_there None p q go = absurd p
 both_there (Some y) p q go = go y refl p q
 
