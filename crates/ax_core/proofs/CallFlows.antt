@@ -65,7 +65,7 @@ use Rattle.ax_core.proofs.EventLemmas.{no_row_numbered}
 use Rattle.ax_core.proofs.FiresFlow.{flow_fires}
 use Rattle.ax_core.proofs.Flows.{same_self, same_is}
 use Rattle.ax_core.proofs.Frames.{KeyIn}
-use Rattle.ax_core.proofs.Fronts.{HeldAs, held_as, IsStartOf, start_quiet, start_as, IsToStart, is_to_start_there, IsToGive, is_to_give_there}
+use Rattle.ax_core.proofs.Fronts.{behind_mail, HeldAs, held_as, IsStartOf, start_quiet, start_as, IsToStart, is_to_start_there, IsToGive, is_to_give_there}
 use Rattle.ax_core.proofs.KeysStay.{keys_made}
 use Rattle.ax_core.proofs.Replaced.{contains_none, replaced_keeps, replaced_has}
 use Rattle.ax_core.proofs.Sends.{accepted}
@@ -403,9 +403,6 @@ one_reference p ms id None (Begun r) e x = absurd x
 one_reference p ms id (Some c) st e x = absurd (cc e)
 
 module _ (old : Controller) (id : Id) (m : Mail) (ns : List Mail) (sound : IsSound old) (taken : old.mails.mails ≡ m ∷ ns) (start : IsStartOf id m) where
-  abbrev taken_from : Controller
-  taken_from = record old { mails = record { mails = ns; room = old.mails.room } }
-
   module _ (h : Held Record) (there : at old.contexts id ≡ Some h) where
     to_start : IsToStart old ns id h
     to_start = is_to_start_there old m ns id h sound.flow taken start there
@@ -445,23 +442,20 @@ module _ (old : Controller) (id : Id) (m : Mail) (ns : List Mail) (sound : IsSou
     }
 
   -- behind a start each request that waits stands once on its way, and each owner that hasn't begun is started once
-  pub start_follows : (b : Controller) (f : Effects) → Has old.contexts id (Started taken_from b id f) → Follows old b
+  pub start_follows : (b : Controller) (f : Effects) → Has old.contexts id (Started (behind_mail old ns) b id f) → Follows old b
   start_follows b f x = of (at old.contexts id) refl x
     where
-      of : (o : Option (Held Record)) → at old.contexts id ≡ o → IsSomeAnd o (Started taken_from b id f) → Follows old b
+      of : (o : Option (Held Record)) → at old.contexts id ≡ o → IsSomeAnd o (Started (behind_mail old ns) b id f) → Follows old b
       of None e x = absurd x
       of (Some h) e x = call_flow old id m ns x.contexts h x.begun.payload x.turn [] (asks_in x.turn.asks) sound
           (start_calls h e x.contexts x.begun.payload x.turn x.begun.begins x.begun.paid) b f x.ended
 
-  pub flow_start : (b : Controller) (f : Effects) → Has old.contexts id (Started taken_from b id f) → IsFlow b
+  pub flow_start : (b : Controller) (f : Effects) → Has old.contexts id (Started (behind_mail old ns) b id f) → IsFlow b
   flow_start b f x = (start_follows b f x).flow
 
 -- ---- it is given an answer
 
 module _ (old : Controller) (id : Id) (slot : ℕ) (answer : Answer) (ns : List Mail) (sound : IsSound old) (taken : old.mails.mails ≡ mail.Reply id slot answer ∷ ns) where
-  abbrev taken_out : Controller
-  taken_out = record old { mails = record { mails = ns; room = old.mails.room } }
-
   module _ (h : Held Record) (there : at old.contexts id ≡ Some h) (code : Machine) (begun : h.payload.machine ≡ Some code) where
     to_give : IsToGive old ns id slot h code
     to_give = is_to_give_there old ns id slot answer h code sound.flow taken there begun
@@ -526,10 +520,10 @@ module _ (old : Controller) (id : Id) (slot : ℕ) (answer : Answer) (ns : List 
             (λ e. e)
 
   -- behind an answer, too
-  pub reply_follows : (b : Controller) (f : Effects) → Has old.contexts id (Replied taken_out b id slot answer f) → Follows old b
+  pub reply_follows : (b : Controller) (f : Effects) → Has old.contexts id (Replied (behind_mail old ns) b id slot answer f) → Follows old b
   reply_follows b f x = of (at old.contexts id) refl x
     where
-      of : (o : Option (Held Record)) → at old.contexts id ≡ o → IsSomeAnd o (Replied taken_out b id slot answer f) → Follows old b
+      of : (o : Option (Held Record)) → at old.contexts id ≡ o → IsSomeAnd o (Replied (behind_mail old ns) b id slot answer f) → Follows old b
       of None e x = absurd x
       of (Some h) e x = code h.payload.machine refl x.resumed.resumed
         where
@@ -538,5 +532,5 @@ module _ (old : Controller) (id : Id) (slot : ℕ) (answer : Answer) (ns : List 
           code (Some c) d y = call_flow old id (mail.Reply id slot answer) ns x.contexts h x.resumed.payload x.turn (waiting (machine.control_of old.program c))
               (replaced slot (asks_in x.turn.asks) (waiting (machine.control_of old.program c))) sound (reply_calls h e c d x.contexts x.resumed.payload x.turn y x.resumed.paid) b f x.ended
 
-  pub flow_reply : (b : Controller) (f : Effects) → Has old.contexts id (Replied taken_out b id slot answer f) → IsFlow b
+  pub flow_reply : (b : Controller) (f : Effects) → Has old.contexts id (Replied (behind_mail old ns) b id slot answer f) → IsFlow b
   flow_reply b f x = (reply_follows b f x).flow

@@ -52,7 +52,7 @@ use Rattle.ax_core.proofs.CalledRuns.{both_there}
 use Rattle.ax_core.proofs.CalledFlow.{WaitsFor, Left, FlowsOn, flow_on}
 use Rattle.ax_core.proofs.CallFlows.{CallsAt, Behind, ran as after_run, held as as_held, more as with_more, done_behind, waits_on, hands_on, start_calls, reply_calls}
 use Rattle.ax_core.proofs.Flows.{same_self, same_is, other_ids}
-use Rattle.ax_core.proofs.Fronts.{HeldAs, held_as, IsStartOf}
+use Rattle.ax_core.proofs.Fronts.{behind_mail, HeldAs, held_as, IsStartOf}
 use Rattle.ax_core.proofs.KeysStay.{out_live}
 use Rattle.ax_core.proofs.Orders.{id_of, mail_live, item_live, items_keep, mails_keep, posts_fires}
 use Rattle.ax_core.proofs.StartLemmas.{next_is, IsUnbegunOf}
@@ -259,10 +259,10 @@ start_said old id (mail.Reply i slot answer) e = absurd e
 
 module _ (old b : Controller) (id : Id) (m : Mail) (ns : List Mail) (f : Effects) (sound : IsSound old) (taken : old.mails.mails ≡ m ∷ ns) (c : MachineControl) (stands : StandsFor old c) (runs : Runs old b f c) where
   -- a handler begins
-  pub first_start : IsStartOf id m → Has old.contexts id (λ h. f.ran ≡ ran.Start h.number) → Has old.contexts id (Started (record old { mails = record { mails = ns; room = old.mails.room } }) b id f) → RunsFirst old b f c
+  pub first_start : IsStartOf id m → Has old.contexts id (λ h. f.ran ≡ ran.Start h.number) → Has old.contexts id (Started (behind_mail old ns) b id f) → RunsFirst old b f c
   first_start start said started = both_there (at old.contexts id) said started of
     where
-      of : (h : Held Record) → at old.contexts id ≡ Some h → f.ran ≡ ran.Start h.number → Started (record old { mails = record { mails = ns; room = old.mails.room } }) b id f h → RunsFirst old b f c
+      of : (h : Held Record) → at old.contexts id ≡ Some h → f.ran ≡ ran.Start h.number → Started (behind_mail old ns) b id f h → RunsFirst old b f c
       of h there is it =
           let calls : CallsAt old id m ns it.contexts h it.begun.payload it.turn [] (asks_in it.turn.asks) =
           start_calls old id m ns sound taken start h there it.contexts it.begun.payload it.turn it.begun.begins it.begun.paid in
@@ -275,13 +275,13 @@ module _ (old b : Controller) (id : Id) (m : Mail) (ns : List Mail) (f : Effects
 
   -- it is given an answer
   pub first_reply : (slot : ℕ) (answer : Answer) → m ≡ mail.Reply id slot answer → Has old.contexts id (λ h. f.ran ≡ ran.Reply h.number slot)
-      → Has old.contexts id (Replied (record old { mails = record { mails = ns; room = old.mails.room } }) b id slot answer f) → RunsFirst old b f c
+      → Has old.contexts id (Replied (behind_mail old ns) b id slot answer f) → RunsFirst old b f c
   first_reply slot answer replies said replied = both_there (at old.contexts id) said replied of
     where
       in_front : old.mails.mails ≡ mail.Reply id slot answer ∷ ns
       in_front = taken ∙ ap (λ (x : Mail). x ∷ ns) replies
 
-      of : (h : Held Record) → at old.contexts id ≡ Some h → f.ran ≡ ran.Reply h.number slot → Replied (record old { mails = record { mails = ns; room = old.mails.room } }) b id slot answer f h → RunsFirst old b f c
+      of : (h : Held Record) → at old.contexts id ≡ Some h → f.ran ≡ ran.Reply h.number slot → Replied (behind_mail old ns) b id slot answer f h → RunsFirst old b f c
       of h there is it = code h.payload.machine refl it.resumed.resumed
         where
           code : (o : Option Machine) → h.payload.machine ≡ o → ResumedAt old.program h.payload it.resumed.payload o slot answer it.turn → RunsFirst old b f c

@@ -21,10 +21,10 @@ use Rattle.ax_core.specs.Events.{SameRules, FiresNext, Runs, event_of, KeysStay}
 use Rattle.ax_core.specs.Order.{RunsFirst}
 use Rattle.ax_core.specs.Calls.{MayStart, MayReply, Started, Replied}
 use Rattle.ax_core.proofs.CallOrder.{first_start, first_reply}
-use Rattle.ax_core.proofs.Fronts.{IsStartOf}
+use Rattle.ax_core.proofs.Fronts.{behind_mail, IsStartOf}
 use Rattle.ax_core.proofs.CalledRuns.{runs_start, runs_reply}
 use Rattle.ax_core.proofs.CallFlows.{Follows, follows_rules, follows_rooms, start_follows, reply_follows}
-use Rattle.ax_core.proofs.Conditions.{behind_mail, may_start, may_reply}
+use Rattle.ax_core.proofs.Conditions.{may_start, may_reply}
 
 -- behind the callback, and the firing if any, it stands for what is left
 stands_next : (a b : Controller) (fired : Option Fired) (m : MachineControl) → FiresNext a b fired m → (n : MachineControl) × StandsFor b n
