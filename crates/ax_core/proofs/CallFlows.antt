@@ -37,7 +37,7 @@ use Rattle.ax_mailbox.specs.declared.mail.Mail.{Mail}
 use Rattle.ax_mailbox.specs.declared.mail.Mail.TheVariants as mail
 use Rattle.ax_time.specs.Epochs.{Book}
 use Rattle.ax_time.specs.Timers.{times_of}
-use Rattle.ax_execution.specs.Contexts.{Stage, Unbegun, Begun, Context, row_context, Waiting, Row, Mark}
+use Rattle.ax_execution.specs.Contexts.{Stage, Unbegun, Begun, row_context, Waiting, Row, Mark}
 use Rattle.ax_execution.specs.Counts.{references, one_at, rows_numbered}
 use Rattle.ax_execution.specs.Reached.{IsOrderly}
 use Rattle.ax_execution.proofs.ReachedOrderly.{reached_orderly}
@@ -49,51 +49,33 @@ use Rattle.ax_core.specs.declared.effects.Effects.{Effects}
 use Rattle.ax_core.specs.declared.settings.Settings.{Settings}
 use Rattle.ax_core.specs.declared.controller.Controller.{Controller}
 use Rattle.ax_core.specs.Contexts.{same_id, StageStands, IsContext, ContextStands, waits_in, waits_at}
-use Rattle.ax_core.specs.Keys.{OwnerStands, ItemsStand}
-use Rattle.ax_core.specs.Flow.{shard_of, one_if, names_request, answers_as, answered_as, starts_as, started_as, in_queues, in_outs, waits_for, is_owner, is_to_start, OwnsBegun, OwnsOnceBegun, IsFlow}
+use Rattle.ax_core.specs.Keys.{ItemsStand}
+use Rattle.ax_core.specs.Flow.{shard_of, one_if, answers_as, answered_as, starts_as, started_as, in_queues, in_outs, waits_for, is_owner, is_to_start, IsFlow}
 use Rattle.ax_core.specs.Sound.{InRange, rules_of, HasRooms, IsSound}
 use Rattle.ax_core.specs.Events.{SameRules, KeysStay}
 use Rattle.ax_core.specs.Firings.{FiresAt}
+use Rattle.ax_core.specs.Order.{number_in}
 use Rattle.ax_core.specs.Callbacks.{with_machine, Begins, Resumed, ResumedAt, items_for, IsQueued, with_start, behind_marks, fires, waits_next, HandsOver, GoesOn}
 use Rattle.ax_core.specs.Calls.{IsDone, WaitsOn, IsGivenUp, EndsBy, CallEnds, Started, Replied}
 use Rattle.ax_core.proofs.AskLemmas.{none_left}
 use Rattle.ax_core.proofs.CalledFlow.{Left, FlowsOn, flow_on, keys_on}
-use Rattle.ax_core.proofs.CalledLemmas.{AnswersNothing, once_begun, once_given}
+use Rattle.ax_core.proofs.CalledLemmas.{once_begun, once_given}
 use Rattle.ax_core.proofs.CallLemmas.{begun_references, given_references}
-use Rattle.ax_core.proofs.Called.{IsStartOf}
 use Rattle.ax_core.proofs.EventLemmas.{no_row_numbered}
 use Rattle.ax_core.proofs.FiresFlow.{flow_fires}
 use Rattle.ax_core.proofs.Flows.{same_self, same_is}
 use Rattle.ax_core.proofs.Frames.{KeyIn}
+use Rattle.ax_core.proofs.Fronts.{behind_mail, HeldAs, held_as, IsStartOf, start_quiet, start_as, IsToStart, is_to_start_there, IsToGive, is_to_give_there}
 use Rattle.ax_core.proofs.KeysStay.{keys_made}
-use Rattle.ax_core.proofs.Open.{and_parts}
-use Rattle.ax_core.proofs.Owners.{names_itself}
 use Rattle.ax_core.proofs.Replaced.{contains_none, replaced_keeps, replaced_has}
 use Rattle.ax_core.proofs.Sends.{accepted}
 use Rattle.ax_core.proofs.StartLemmas.{next_is, IsUnbegunOf, next_owns}
-
-true_false : true ≡ false → ⊥
-true_false e = cc e
 
 -- a key's shard is one of all
 pub shard_inside : (s : Settings) (key : Key) → InRange s → shard_of s key < s.shards
 shard_inside s key r = index_below (group key s.groups) s.groups s.shards r.shards.0.0 r.shards.1 (mod_below (spread (hash_of key)) s.groups r.shards.0.0)
 
--- ---- the owner of a key, and the row that comes next
-
--- what is held of the owner, as the control has it
-pub record HeldAs (p : Program) (ms : List Mail) (key : Key) (id : Id) (h : Held Record) (o : Option Context) : Type 0 where
-  pub context : Context
-  pub owner : o ≡ Some context
-  pub stands : IsContext p ms key id h context
-
-pub held_as : (p : Program) (ms : List Mail) (s : Slots Record) (key : Key) (id : Id) (h : Held Record) → at s id ≡ Some h → (o : Option Id) (c : Option Context) → o ≡ Some id
-    → OwnerStands p ms s key o c → HeldAs p ms key id h c
-held_as p ms s key id h there None c e x = absurd (cc e)
-held_as p ms s key id h there (Some j) None e x = absurd x
-held_as p ms s key id h there (Some j) (Some c) e x =
-    let same : j ≡ id = cc in
-    record { context = c; owner = refl; stands = subst (λ (o : Option (Held Record)). ContextStands p ms key id o c) there (subst (λ (i : Id). ContextStands p ms key i (at s i) c) same x) }
+-- ---- the row that comes next at a key
 
 -- a row that waits for the key, with another number
 record NextRow (p : Program) (ms : List Mail) (s : Slots Record) (key : Key) (i : Id) (number : ℕ) : Type 0 where
@@ -150,7 +132,7 @@ pub record CallsAt (old : Controller) (id : Id) (m : Mail) (ns : List Mail) (s :
       → (slot : ℕ) → in_queues b id slot + (in_outs b id slot + answered_as id slot b.mails.mails) ≡ one_if (waits_for (waits_at b.program (at b.contexts id)) slot)
 
 -- before the key goes on: all that is as it was, the requests, and the mails that are left
-record Behind (old b : Controller) (id : Id) (key : Key) (asks : List Ask) (ns : List Mail) : Type 0 where
+pub record Behind (old b : Controller) (id : Id) (key : Key) (asks : List Ask) (ns : List Mail) : Type 0 where
   program : b.program ≡ old.program
   settings : b.settings ≡ old.settings
   outs : b.outs ≡ old.outs
@@ -211,7 +193,7 @@ module _ (old : Controller) (id : Id) (m : Mail) (ns : List Mail) (s : Slots Rec
   key_is : h.payload.facts.key ≡ payload.facts.key
   key_is = sym (ap (λ (r : Record). r.facts.key) calls.made)
 
-  done_behind : (mid : Controller) → IsDone ran mid id held t → Behind old mid id payload.facts.key t.asks ns
+  pub done_behind : (mid : Controller) → IsDone ran mid id held t → Behind old mid id payload.facts.key t.asks ns
   done_behind mid done = record {
     program = ap (λ (c : Controller). c.program) done.same;
     settings = ap (λ (c : Controller). c.settings) done.same;
@@ -278,51 +260,54 @@ module _ (old : Controller) (id : Id) (m : Mail) (ns : List Mail) (s : Slots Rec
 
   -- ---- its context waits on
 
-  waits_flow : (mid b : Controller) → Behind old mid id payload.facts.key t.asks ns → WaitsOn mid b id more → Follows old b
-  waits_flow mid b x w = record {
-    flow = flow_on old b id payload.facts.key t.asks next.Free m ns was xs sound.flow on;
-    outs = y.outs;
-    keys = keys_on old b id payload.facts.key t.asks next.Free m ns was xs sound.flow on;
-    program = y.program;
-    settings = y.settings;
-    limit = y.limit;
-    requests = y.queued.room;
-    room = y.room;
-  }
-    where
-      y : Behind old b id payload.facts.key t.asks ns
-      y = ended_behind mid b b.contexts mid.epochs w.same w.others w.limit x
+  module _ (mid b : Controller) (x : Behind old mid id payload.facts.key t.asks ns) (w : WaitsOn mid b id more) where
+    waits_behind : Behind old b id payload.facts.key t.asks ns
+    waits_behind = ended_behind mid b b.contexts mid.epochs w.same w.others w.limit x
 
-      machine_is : payload.machine ≡ Some calls.after
-      machine_is = ap (λ (r : Record). r.machine) calls.made
+    machine_is : payload.machine ≡ Some calls.after
+    machine_is = ap (λ (r : Record). r.machine) calls.made
 
-      waits_now : waits_in b.program payload.machine ≡ xs
-      waits_now = (λ j. waits_in (y.program j) (machine_is j)) ∙ calls.waits
+    waits_now : waits_in b.program payload.machine ≡ xs
+    waits_now = (λ j. waits_in (waits_behind.program j) (machine_is j)) ∙ calls.waits
 
-      on : FlowsOn old b id payload.facts.key t.asks next.Free m ns was xs
-      on = record {
-        named = has_key (at old.contexts id) calls.there;
-        owned = calls.owned;
-        waited = calls.waited;
-        left = subst (λ (o : Option (Held Record)). Left b id payload.facts.key xs o) (sym w.left) (record { named = refl; begun = ap is_none machine_is; waits = waits_now; owner = ap (λ (a : Accounts). owner_of a payload.facts.key) y.accounts ∙ calls.owned });
-        others = y.others;
-        program = y.program;
-        settings = y.settings;
-        outs = y.outs;
-        inside = inside;
-        queued = y.queued;
-        asked = calls.asked;
-        waits = calls.keeps;
-        taken = calls.taken;
-        posted = y.mails;
-        starts = calls.starts;
-        answers = calls.answers;
-        started = calls.started;
-        owners = λ q differ. ap (λ (a : Accounts). owner_of a q) y.accounts;
-        owner = λ i differ. ap (λ (a : Accounts). is_owner i (owner_of a payload.facts.key)) y.accounts ∙ ap (is_owner i) calls.owned ∙ differ;
-        next = λ i e. absurd (cc e);
-        once = calls.once b next.Free y.queued y.outs y.mails (ap (waits_at b.program) w.left ∙ waits_now);
-      }
+    pub waits_on : FlowsOn old b id payload.facts.key t.asks next.Free m ns was xs
+    waits_on = record {
+      named = has_key (at old.contexts id) calls.there;
+      owned = calls.owned;
+      waited = calls.waited;
+      left = subst (λ (o : Option (Held Record)). Left b id payload.facts.key xs o) (sym w.left)
+          (record { named = refl; begun = ap is_none machine_is; waits = waits_now; owner = ap (λ (a : Accounts). owner_of a payload.facts.key) waits_behind.accounts ∙ calls.owned });
+      number = λ live. ap number_in w.left ∙ sym (ap number_in calls.there);
+      others = waits_behind.others;
+      program = waits_behind.program;
+      settings = waits_behind.settings;
+      outs = waits_behind.outs;
+      inside = inside;
+      queued = waits_behind.queued;
+      asked = calls.asked;
+      waits = calls.keeps;
+      taken = calls.taken;
+      posted = waits_behind.mails;
+      starts = calls.starts;
+      answers = calls.answers;
+      started = calls.started;
+      owners = λ q differ. ap (λ (a : Accounts). owner_of a q) waits_behind.accounts;
+      owner = λ i differ. ap (λ (a : Accounts). is_owner i (owner_of a payload.facts.key)) waits_behind.accounts ∙ ap (is_owner i) calls.owned ∙ differ;
+      next = λ i e. absurd (cc e);
+      once = calls.once b next.Free waits_behind.queued waits_behind.outs waits_behind.mails (ap (waits_at b.program) w.left ∙ waits_now);
+    }
+
+    waits_flow : Follows old b
+    waits_flow = record {
+      flow = flow_on old b id payload.facts.key t.asks next.Free m ns was xs sound.flow waits_on;
+      outs = waits_behind.outs;
+      keys = keys_on old b id payload.facts.key t.asks next.Free m ns was xs sound.flow waits_on;
+      program = waits_behind.program;
+      settings = waits_behind.settings;
+      limit = waits_behind.limit;
+      requests = waits_behind.queued.room;
+      room = waits_behind.room;
+    }
 
   -- ---- or it is given up, and its key is handed over
 
@@ -335,64 +320,63 @@ module _ (old : Controller) (id : Id) (m : Mail) (ns : List Mail) (s : Slots Rec
       let none : 0 ≡ length (waiting (machine.control_of old.program calls.after)) = omega (arith, sum, waiting_length (machine.control_of old.program calls.after)) in
       sym calls.waits ∙ none_left (waiting (machine.control_of old.program calls.after)) none
 
-  hands_flow : (mid g b : Controller) → Behind old mid id payload.facts.key t.asks ns → IsGivenUp mid g id more → HandsOver g b payload.facts.key → Follows old b
-  hands_flow mid g b x given hands = record {
-    flow = flow_on old b id payload.facts.key t.asks (next_of (waits_next g payload.facts.key)) m ns was xs sound.flow on;
-    outs = outs;
-    keys = keys_on old b id payload.facts.key t.asks (next_of (waits_next g payload.facts.key)) m ns was xs sound.flow on;
-    program = program;
-    settings = ap (λ (c : Controller). c.settings) hands.same ∙ y.settings;
-    limit = ap (λ (c : Controller). c.contexts.limit) hands.same ∙ y.limit;
-    requests = queued.room;
-    room = hands.room ∙ y.room;
-  }
-    where
-      y : Behind old g id payload.facts.key t.asks ns
-      y = ended_behind mid g g.contexts g.epochs given.same given.others given.limit x
+  module _ (mid g b : Controller) (x : Behind old mid id payload.facts.key t.asks ns) (given : IsGivenUp mid g id more) (hands : HandsOver g b payload.facts.key) where
+    given_behind : Behind old g id payload.facts.key t.asks ns
+    given_behind = ended_behind mid g g.contexts g.epochs given.same given.others given.limit x
 
-      contexts : b.contexts ≡ g.contexts
-      contexts = ap (λ (c : Controller). c.contexts) hands.same
+    contexts : b.contexts ≡ g.contexts
+    contexts = ap (λ (c : Controller). c.contexts) hands.same
 
-      program : b.program ≡ old.program
-      program = ap (λ (c : Controller). c.program) hands.same ∙ y.program
+    outs : b.outs ≡ old.outs
+    outs = ap (λ (c : Controller). c.outs) hands.same ∙ given_behind.outs
 
-      outs : b.outs ≡ old.outs
-      outs = ap (λ (c : Controller). c.outs) hands.same ∙ y.outs
+    gone : at b.contexts id ≡ None
+    gone = (λ j. at (contexts j) id) ∙ given.free
 
-      gone : at b.contexts id ≡ None
-      gone = (λ j. at (contexts j) id) ∙ given.free
+    posted : b.mails.mails ≡ with_start (next_of (waits_next g payload.facts.key)) ns
+    posted = hands.mails ∙ ap (with_start (next_of (waits_next g payload.facts.key))) given_behind.mails
 
-      posted : b.mails.mails ≡ with_start (next_of (waits_next g payload.facts.key)) ns
-      posted = hands.mails ∙ ap (with_start (next_of (waits_next g payload.facts.key))) y.mails
+    queued : IsQueued old.buffer b.buffer (shard_of old.settings payload.facts.key) (items_for id payload.facts.key t.asks)
+    queued = subst (λ (c : Controller). IsQueued old.buffer c.buffer (shard_of old.settings payload.facts.key) (items_for id payload.facts.key t.asks)) (sym hands.same) given_behind.queued
 
-      queued : IsQueued old.buffer b.buffer (shard_of old.settings payload.facts.key) (items_for id payload.facts.key t.asks)
-      queued = subst (λ (c : Controller). IsQueued old.buffer c.buffer (shard_of old.settings payload.facts.key) (items_for id payload.facts.key t.asks)) (sym hands.same) y.queued
+    pub hands_on : FlowsOn old b id payload.facts.key t.asks (next_of (waits_next g payload.facts.key)) m ns was xs
+    hands_on = record {
+      named = has_key (at old.contexts id) calls.there;
+      owned = calls.owned;
+      waited = calls.waited;
+      left = subst (λ (o : Option (Held Record)). Left b id payload.facts.key xs o) (sym gone) (none_waits given.last);
+      number = λ live. absurd (live gone);
+      others = λ i differ. (λ j. at (contexts j) i) ∙ given_behind.others i differ;
+      program = ap (λ (c : Controller). c.program) hands.same ∙ given_behind.program;
+      settings = ap (λ (c : Controller). c.settings) hands.same ∙ given_behind.settings;
+      outs = outs;
+      inside = inside;
+      queued = queued;
+      asked = calls.asked;
+      waits = calls.keeps;
+      taken = calls.taken;
+      posted = posted;
+      starts = calls.starts;
+      answers = calls.answers;
+      started = calls.started;
+      owners = λ q differ. ap (λ (p : Part). p.owner) (hands.part.others q differ) ∙ ap (λ (a : Accounts). owner_of a q) given_behind.accounts;
+      owner = λ i differ. ap (λ (p : Part). is_owner i p.owner) hands.part.own ∙ next_owns i (waits_next g payload.facts.key);
+      next = λ i e. comes_next (times_of g.timers payload.facts.key) i
+          (subst (λ (a : Accounts). next_is i (next_of (behind_marks (times_of g.timers payload.facts.key) (waiting_of a payload.facts.key))) ≡ true) given_behind.accounts e);
+      once = calls.once b (next_of (waits_next g payload.facts.key)) queued outs posted (ap (waits_at b.program) gone ∙ sym (none_waits given.last));
+    }
 
-      on : FlowsOn old b id payload.facts.key t.asks (next_of (waits_next g payload.facts.key)) m ns was xs
-      on = record {
-        named = has_key (at old.contexts id) calls.there;
-        owned = calls.owned;
-        waited = calls.waited;
-        left = subst (λ (o : Option (Held Record)). Left b id payload.facts.key xs o) (sym gone) (none_waits given.last);
-        others = λ i differ. (λ j. at (contexts j) i) ∙ y.others i differ;
-        program = program;
-        settings = ap (λ (c : Controller). c.settings) hands.same ∙ y.settings;
-        outs = outs;
-        inside = inside;
-        queued = queued;
-        asked = calls.asked;
-        waits = calls.keeps;
-        taken = calls.taken;
-        posted = posted;
-        starts = calls.starts;
-        answers = calls.answers;
-        started = calls.started;
-        owners = λ q differ. ap (λ (p : Part). p.owner) (hands.part.others q differ) ∙ ap (λ (a : Accounts). owner_of a q) y.accounts;
-        owner = λ i differ. ap (λ (p : Part). is_owner i p.owner) hands.part.own ∙ next_owns i (waits_next g payload.facts.key);
-        next = λ i e. comes_next (times_of g.timers payload.facts.key) i
-            (subst (λ (a : Accounts). next_is i (next_of (behind_marks (times_of g.timers payload.facts.key) (waiting_of a payload.facts.key))) ≡ true) y.accounts e);
-        once = calls.once b (next_of (waits_next g payload.facts.key)) queued outs posted (ap (waits_at b.program) gone ∙ sym (none_waits given.last));
-      }
+    hands_flow : Follows old b
+    hands_flow = record {
+      flow = flow_on old b id payload.facts.key t.asks (next_of (waits_next g payload.facts.key)) m ns was xs sound.flow hands_on;
+      outs = outs;
+      keys = keys_on old b id payload.facts.key t.asks (next_of (waits_next g payload.facts.key)) m ns was xs sound.flow hands_on;
+      program = hands_on.program;
+      settings = hands_on.settings;
+      limit = ap (λ (c : Controller). c.contexts.limit) hands.same ∙ given_behind.limit;
+      requests = queued.room;
+      room = hands.room ∙ given_behind.room;
+    }
 
   goes_flow : (mid g b : Controller) (fired : Option Fired) → Behind old mid id payload.facts.key t.asks ns → IsGivenUp mid g id more → GoesOn g b payload.facts.key fired → Follows old b
   goes_flow mid g b None x given goes = hands_flow mid g b x given goes.1
@@ -408,28 +392,6 @@ module _ (old : Controller) (id : Id) (m : Mail) (ns : List Mail) (s : Slots Rec
 
 -- ---- a handler begins
 
-start_quiet : (id : Id) (m : Mail) → IsStartOf id m → AnswersNothing m
-start_quiet id (mail.Start i) e j slot = refl
-start_quiet id (mail.Fire i) e j slot = refl
-start_quiet id (mail.Reply i s a) e j slot = absurd e
-
-start_as : (id : Id) (m : Mail) → IsStartOf id m → (j : Id) → starts_as j m ≡ one_if (same_id id j)
-start_as id (mail.Start i) e j = ap (λ (k : Id). one_if (same_id k j)) e
-start_as id (mail.Fire i) e j = ap (λ (k : Id). one_if (same_id k j)) e
-start_as id (mail.Reply i s a) e j = absurd e
-
-is_true : (b : Bool) → 1 ≤ one_if b → b ≡ true
-is_true true h = refl
-is_true false h = absurd (omega (arith, h))
-
-at_most : (b : Bool) → one_if b ≤ 1
-at_most true = omega arith
-at_most false = omega arith
-
-owner_is : (id : Id) (o : Option Id) → is_owner id o ≡ true → o ≡ Some id
-owner_is id None e = absurd (cc e)
-owner_is id (Some j) e = ap Some (same_is j id e)
-
 -- one that hasn't begun waits for nothing, and has one reference
 none_waited : (p : Program) (o : Option Machine) → is_none o ≡ true → waits_in p o ≡ []
 none_waited p None e = refl
@@ -441,44 +403,30 @@ one_reference p ms id None (Begun r) e x = absurd x
 one_reference p ms id (Some c) st e x = absurd (cc e)
 
 module _ (old : Controller) (id : Id) (m : Mail) (ns : List Mail) (sound : IsSound old) (taken : old.mails.mails ≡ m ∷ ns) (start : IsStartOf id m) where
-  abbrev taken_from : Controller
-  taken_from = record old { mails = record { mails = ns; room = old.mails.room } }
-
   module _ (h : Held Record) (there : at old.contexts id ≡ Some h) where
-    -- it owns its key, hasn't begun, and no other mail starts it
-    sum : starts_as id m + started_as id ns ≡ one_if (is_none h.payload.machine && is_owner id (owner_of old.accounts h.payload.facts.key))
-    sum = sym (ap (started_as id) taken) ∙ sound.flow.starts id ∙ ap (λ (o : Option (Held Record)). one_if (is_to_start old id o)) there
+    to_start : IsToStart old ns id h
+    to_start = is_to_start_there old m ns id h sound.flow taken start there
 
-    first : starts_as id m ≡ 1
-    first = start_as id m start id ∙ ap one_if (same_self id)
-
-    both : (is_none h.payload.machine ≡ true) × (is_owner id (owner_of old.accounts h.payload.facts.key) ≡ true)
-    both = and_parts (is_none h.payload.machine) (is_owner id (owner_of old.accounts h.payload.facts.key))
-        (is_true (is_none h.payload.machine && is_owner id (owner_of old.accounts h.payload.facts.key)) (omega (arith, sum, first)))
-
-    no_start : started_as id ns ≡ 0
-    no_start = omega (arith, sum, first, at_most (is_none h.payload.machine && is_owner id (owner_of old.accounts h.payload.facts.key)))
-
-    own_key : owner_of old.accounts h.payload.facts.key ≡ Some id
-    own_key = owner_is id (owner_of old.accounts h.payload.facts.key) both.1
+    unbegun : is_none h.payload.machine ≡ true
+    unbegun = ap is_none to_start.unbegun
 
     stands : HeldAs old.program old.mails.mails h.payload.facts.key id h (sound.control.controls h.payload.facts.key).owner
-    stands = held_as old.program old.mails.mails old.contexts h.payload.facts.key id h there (part_of old.accounts h.payload.facts.key).owner (sound.control.controls h.payload.facts.key).owner own_key
+    stands = held_as old.program old.mails.mails old.contexts h.payload.facts.key id h there (part_of old.accounts h.payload.facts.key).owner (sound.control.controls h.payload.facts.key).owner to_start.owns
         (sound.stands.stands.keys h.payload.facts.key).owner
 
     counted : h.count ≡ 1
-    counted = stands.stands.count ∙ one_reference old.program old.mails.mails id h.payload.machine stands.context.stage both.0 stands.stands.stage
+    counted = stands.stands.count ∙ one_reference old.program old.mails.mails id h.payload.machine stands.context.stage unbegun stands.stands.stage
 
     waited : waits_at old.program (at old.contexts id) ≡ []
-    waited = ap (waits_at old.program) there ∙ none_waited old.program h.payload.machine both.0
+    waited = ap (waits_at old.program) there ∙ none_waited old.program h.payload.machine unbegun
 
-    start_calls : (s : Slots Record) (payload : Record) (t : Turn) → Begins old.program h.payload payload t → IsPaid old.contexts s id payload → CallsAt old id m ns s h payload t [] (asks_in t.asks)
+    pub start_calls : (s : Slots Record) (payload : Record) (t : Turn) → Begins old.program h.payload payload t → IsPaid old.contexts s id payload → CallsAt old id m ns s h payload t [] (asks_in t.asks)
     start_calls s payload t b paid = record {
       there = there;
       paid = paid;
       after = b.after;
       made = b.there;
-      owned = ap (λ (r : Record). owner_of old.accounts r.facts.key) b.there ∙ own_key;
+      owned = ap (λ (r : Record). owner_of old.accounts r.facts.key) b.there ∙ to_start.owns;
       waited = waited;
       waits = b.asks;
       count = ap (λ (n : ℕ). n + length t.asks) counted ∙ begun_references old.program h.payload payload t b;
@@ -487,60 +435,39 @@ module _ (old : Controller) (id : Id) (m : Mail) (ns : List Mail) (sound : IsSou
       taken = taken;
       starts = λ i differ. start_as id m start i ∙ ap one_if differ;
       answers = λ i slot differ. start_quiet id m start i slot;
-      started = no_start;
+      started = to_start.once;
       once = λ c n queued outs posted waits. once_begun old c id payload.facts.key (shard_of old.settings payload.facts.key) t.asks n m ns (start_quiet id m start)
           (subst (λ (k : ℕ). shard_of old.settings payload.facts.key < k) (sym sound.flow.shards.0) (shard_inside old.settings payload.facts.key sound.ranges))
           queued outs taken posted (same_self id) b.rise waited waits (sound.flow.once id);
     }
 
   -- behind a start each request that waits stands once on its way, and each owner that hasn't begun is started once
-  pub start_follows : (b : Controller) (f : Effects) → Has old.contexts id (Started taken_from b id f) → Follows old b
+  pub start_follows : (b : Controller) (f : Effects) → Has old.contexts id (Started (behind_mail old ns) b id f) → Follows old b
   start_follows b f x = of (at old.contexts id) refl x
     where
-      of : (o : Option (Held Record)) → at old.contexts id ≡ o → IsSomeAnd o (Started taken_from b id f) → Follows old b
+      of : (o : Option (Held Record)) → at old.contexts id ≡ o → IsSomeAnd o (Started (behind_mail old ns) b id f) → Follows old b
       of None e x = absurd x
       of (Some h) e x = call_flow old id m ns x.contexts h x.begun.payload x.turn [] (asks_in x.turn.asks) sound
           (start_calls h e x.contexts x.begun.payload x.turn x.begun.begins x.begun.paid) b f x.ended
 
-  pub flow_start : (b : Controller) (f : Effects) → Has old.contexts id (Started taken_from b id f) → IsFlow b
+  pub flow_start : (b : Controller) (f : Effects) → Has old.contexts id (Started (behind_mail old ns) b id f) → IsFlow b
   flow_start b f x = (start_follows b f x).flow
 
 -- ---- it is given an answer
 
 module _ (old : Controller) (id : Id) (slot : ℕ) (answer : Answer) (ns : List Mail) (sound : IsSound old) (taken : old.mails.mails ≡ mail.Reply id slot answer ∷ ns) where
-  abbrev taken_out : Controller
-  taken_out = record old { mails = record { mails = ns; room = old.mails.room } }
-
-  all_ways : in_queues old id slot + (in_outs old id slot + (one_if (names_request id slot id slot) + answered_as id slot ns)) ≡ one_if (waits_for (waits_at old.program (at old.contexts id)) slot)
-  all_ways = ap (λ (ms : List Mail). in_queues old id slot + (in_outs old id slot + answered_as id slot ms)) (sym taken) ∙ sound.flow.once id slot
-
-  names : one_if (names_request id slot id slot) ≡ 1
-  names = ap one_if (names_itself id slot)
-
-  waits_there : waits_for (waits_at old.program (at old.contexts id)) slot ≡ true
-  waits_there = is_true (waits_for (waits_at old.program (at old.contexts id)) slot) (omega (arith, all_ways, names))
-
-  not_queued : in_queues old id slot ≡ 0
-  not_queued = omega (arith, all_ways, names, at_most (waits_for (waits_at old.program (at old.contexts id)) slot))
-
   module _ (h : Held Record) (there : at old.contexts id ≡ Some h) (code : Machine) (begun : h.payload.machine ≡ Some code) where
-    was : List Asked
-    was = waiting (machine.control_of old.program code)
+    to_give : IsToGive old ns id slot h code
+    to_give = is_to_give_there old ns id slot answer h code sound.flow taken there begun
 
     waited_for : waits_at old.program (at old.contexts id) ≡ waiting (machine.control_of old.program code)
     waited_for = ap (waits_at old.program) there ∙ ap (waits_in old.program) begun
 
     waits_here : waits_for (waiting (machine.control_of old.program code)) slot ≡ true
-    waits_here = ap (λ (ys : List Asked). waits_for ys slot) (sym waited_for) ∙ waits_there
-
-    has_slot : has slot (slots (machine.control_of old.program code)) ≡ true
-    has_slot = ap (has slot) (slots_waiting (machine.control_of old.program code)) ∙ waits_here
-
-    owns : owner_of old.accounts h.payload.facts.key ≡ Some id
-    owns = subst (λ (o : Option Machine). OwnsBegun old id o h.payload.facts.key) begun (subst (λ (o : Option (Held Record)). OwnsOnceBegun old id o) there (sound.flow.begun id))
+    waits_here = ap (has slot) (sym (slots_waiting (machine.control_of old.program code))) ∙ to_give.waits
 
     owner_held : HeldAs old.program old.mails.mails h.payload.facts.key id h (sound.control.controls h.payload.facts.key).owner
-    owner_held = held_as old.program old.mails.mails old.contexts h.payload.facts.key id h there (part_of old.accounts h.payload.facts.key).owner (sound.control.controls h.payload.facts.key).owner owns
+    owner_held = held_as old.program old.mails.mails old.contexts h.payload.facts.key id h there (part_of old.accounts h.payload.facts.key).owner (sound.control.controls h.payload.facts.key).owner to_give.owns
         (sound.stands.stands.keys h.payload.facts.key).owner
 
     -- it waits for as many requests as it has references
@@ -564,17 +491,17 @@ module _ (old : Controller) (id : Id) (slot : ℕ) (answer : Answer) (ns : List 
         ∙ ap (λ (o : Option Machine). one_if (is_none o && is_owner id (owner_of old.accounts h.payload.facts.key))) begun in
         omega (arith, sum)
 
-    reply_calls : (s : Slots Record) (payload : Record) (t : Turn) → Resumed old.program h.payload payload code slot answer t → IsPaid old.contexts s id payload
+    pub reply_calls : (s : Slots Record) (payload : Record) (t : Turn) → Resumed old.program h.payload payload code slot answer t → IsPaid old.contexts s id payload
         → CallsAt old id (mail.Reply id slot answer) ns s h payload t (waiting (machine.control_of old.program code)) (replaced slot (asks_in t.asks) (waiting (machine.control_of old.program code)))
     reply_calls s payload t g paid = record {
       there = there;
       paid = paid;
       after = g.after;
       made = g.there;
-      owned = ap (λ (r : Record). owner_of old.accounts r.facts.key) g.there ∙ owns;
+      owned = ap (λ (r : Record). owner_of old.accounts r.facts.key) g.there ∙ to_give.owns;
       waited = waited_for;
       waits = g.asks;
-      count = ap (λ (n : ℕ). n + length t.asks) runs.count ∙ given_references old.program h.payload payload code slot answer t g has_slot;
+      count = ap (λ (n : ℕ). n + length t.asks) runs.count ∙ given_references old.program h.payload payload code slot answer t g to_give.waits;
       asked = λ a c. replaced_has slot (asks_in t.asks) (waiting (machine.control_of old.program code)) a waits_here c;
       keeps = λ u q some c. replaced_keeps slot (asks_in t.asks) (waiting (machine.control_of old.program code)) (record { slot = u; request = q }) (other u some) c;
       taken = taken;
@@ -589,14 +516,14 @@ module _ (old : Controller) (id : Id) (slot : ℕ) (answer : Answer) (ns : List 
       where
         other : (u : ℕ) → 1 ≤ in_queues old id u → nat_eq slot u ≡ false
         other u some = by_cases (nat_eq slot u)
-            (λ e. let none : in_queues old id u ≡ 0 = ap (in_queues old id) (sym (eqb-true slot u e)) ∙ not_queued in absurd (omega (arith, some, none)))
+            (λ e. let none : in_queues old id u ≡ 0 = ap (in_queues old id) (sym (eqb-true slot u e)) ∙ to_give.unqueued in absurd (omega (arith, some, none)))
             (λ e. e)
 
   -- behind an answer, too
-  pub reply_follows : (b : Controller) (f : Effects) → Has old.contexts id (Replied taken_out b id slot answer f) → Follows old b
+  pub reply_follows : (b : Controller) (f : Effects) → Has old.contexts id (Replied (behind_mail old ns) b id slot answer f) → Follows old b
   reply_follows b f x = of (at old.contexts id) refl x
     where
-      of : (o : Option (Held Record)) → at old.contexts id ≡ o → IsSomeAnd o (Replied taken_out b id slot answer f) → Follows old b
+      of : (o : Option (Held Record)) → at old.contexts id ≡ o → IsSomeAnd o (Replied (behind_mail old ns) b id slot answer f) → Follows old b
       of None e x = absurd x
       of (Some h) e x = code h.payload.machine refl x.resumed.resumed
         where
@@ -605,5 +532,5 @@ module _ (old : Controller) (id : Id) (slot : ℕ) (answer : Answer) (ns : List 
           code (Some c) d y = call_flow old id (mail.Reply id slot answer) ns x.contexts h x.resumed.payload x.turn (waiting (machine.control_of old.program c))
               (replaced slot (asks_in x.turn.asks) (waiting (machine.control_of old.program c))) sound (reply_calls h e c d x.contexts x.resumed.payload x.turn y x.resumed.paid) b f x.ended
 
-  pub flow_reply : (b : Controller) (f : Effects) → Has old.contexts id (Replied taken_out b id slot answer f) → IsFlow b
+  pub flow_reply : (b : Controller) (f : Effects) → Has old.contexts id (Replied (behind_mail old ns) b id slot answer f) → IsFlow b
   flow_reply b f x = (reply_follows b f x).flow

@@ -12,7 +12,7 @@ use Rattle.ax_core.specs.Events.{key_in, KeysStay}
 pub keys_same : (a b : Controller) → b.contexts ≡ a.contexts → KeysStay a b
 keys_same a b same shard n c = λ j. key_in (at (same j) n.id)
 
-out_live : (a : Controller) (shard : ℕ) (o : Option (Held Record)) → OutStands a shard o → o ≡ None → ⊥
+pub out_live : (a : Controller) (shard : ℕ) (o : Option (Held Record)) → OutStands a shard o → o ≡ None → ⊥
 out_live a shard None x e = x
 out_live a shard (Some h) x e = cc e
 

@@ -22,6 +22,7 @@ pub mod Ends
 pub mod EventLemmas
 pub mod Forgotten
 pub mod Frames
+pub mod Fronts
 pub mod GetLemmas
 pub mod GoLemmas
 pub mod HandLemmas
@@ -46,4 +47,7 @@ pub mod KeysStay
 pub mod Replaced
 pub mod CalledFlow
 pub mod CallFlows
+pub mod MailRuns
+pub mod Orders
+pub mod CallOrder
 pub mod BatchFits

@@ -13,3 +13,4 @@ pub mod Rooms
 pub mod Firings
 pub mod Closings
 pub mod Admissions
+pub mod Order

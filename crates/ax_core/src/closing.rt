@@ -1,5 +1,5 @@
 //! Epochs are closed, and their markers are sent.
-ghost use Rattle.std.specs.Prelude.{◌≡◌, ◌↔◌, ◌+◌, ◌≤◌, ◌<◌, ◌^◌, ◌<ℤ◌, length, true, IsTrue, OnOk};
+ghost use Rattle.std.specs.Prelude.{◌≡◌, ◌↔◌, ◌+◌, ◌≤◌, ◌<◌, ◌^◌, ◌<ℤ◌, [], length, true, IsTrue, OnOk};
 ghost use Rattle.ax_account.specs.Parts.{is_free};
 ghost use Rattle.ax_account.specs.Accounts.{part_of};
 ghost use Rattle.ax_execution.specs.Machine.{Close, ByWatermark, ByBarrier};
@@ -10,6 +10,7 @@ ghost use Rattle.ax_core.specs.Epochs.{closing_of};
 ghost use Rattle.ax_core.specs.Closings.{barrier_left, Marks, MarksIf, MarksAll, books, current_count, every, is_free_at};
 ghost use Rattle.ax_core.specs.Sound.{rules_of, StandsFor, IsSound};
 ghost use Rattle.ax_core.specs.Events.{SameRules, KeysStay, Makes, SendsNext};
+ghost use Rattle.ax_core.specs.Order.{Posts};
 
 use crate::controller::Controller;
 use ax_account::{Accounting, Next};
@@ -48,6 +49,7 @@ impl Controller {
         ensures same { OnOk result (SameRules self.old self.new) }
         ensures outs { OnOk result (self.new.outs ≡ self.old.outs) }
         ensures keys { OnOk result (KeysStay self.old self.new) }
+        ensures order { OnOk result (Posts self.old self.new []) }
         ensures event { OnOk result ((c : MachineControl) → StandsFor self.old c → Makes self.old self.new (Close (closing_of m)) c) }
     {
         match m {
@@ -65,6 +67,7 @@ impl Controller {
         ensures same { OnOk result (SameRules self.old self.new) }
         ensures outs { OnOk result (self.new.outs ≡ self.old.outs) }
         ensures keys { OnOk result (KeysStay self.old self.new) }
+        ensures order { OnOk result (Posts self.old self.new []) }
         ensures event { OnOk result ((c : MachineControl) → StandsFor self.old c → Makes self.old self.new (Close (ByWatermark time)) c) }
     {
         sizes_law(&self.epochs);
@@ -90,6 +93,7 @@ impl Controller {
         ensures same { OnOk result (SameRules self.old self.new) }
         ensures outs { OnOk result (self.new.outs ≡ self.old.outs) }
         ensures keys { OnOk result (KeysStay self.old self.new) }
+        ensures order { OnOk result (Posts self.old self.new []) }
         ensures event { OnOk result ((c : MachineControl) → StandsFor self.old c → Makes self.old self.new (Close (ByBarrier id)) c) }
     {
         sizes_law(&self.epochs);
@@ -108,6 +112,7 @@ impl Controller {
         ensures same { SameRules self.old self.new }
         ensures outs { self.new.outs ≡ self.old.outs }
         ensures keys { KeysStay self.old self.new }
+        ensures order { Posts self.old self.new [] }
         ensures event { (c : MachineControl) → StandsFor self.old c → SendsNext self.old self.new result c }
     {
         sizes_law(&self.epochs);
