@@ -1,5 +1,5 @@
 //! A controller in the hand of a test.
-ghost use Rattle.std.specs.Prelude.{◌≡◌, IfOk, OnOk, true};
+ghost use Rattle.std.specs.Prelude.{IfOk, OnOk};
 ghost use Rattle.ax_core.specs.Sound.{InRange};
 ghost use Rattle.ax_core_tests.specs.Hands.{IsReady};
 

@@ -1,5 +1,5 @@
 //! The states of a few keys, which serve batches.
-ghost use Rattle.std.specs.Prelude.{◌≡◌};
+ghost use Rattle.std.specs.Prelude.{◌≡◌, IfOk};
 ghost use Rattle.ax_state.specs.KeyCells.{cell_kinds};
 ghost use Rattle.ax_lang.specs.Shown.{shown_kinds};
 ghost use Rattle.ax_core.specs.Events.{names_in, names_of};
