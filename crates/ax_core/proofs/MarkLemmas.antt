@@ -1,5 +1,5 @@
 -- The marks in front of a key that fire nothing are taken off.
-use Rattle.std.proofs.Common.{◌≡◌, ℕ, ◌+◌, ◌<◌, ℤ, Bool, true, false, cond, not, ◌||◌, List, [], ◌∷◌, length, Some, None, refl, sym, ap, ◌∙◌, subst, arith}
+use Rattle.std.proofs.Common.{◌≡◌, ℕ, ◌+◌, ◌<◌, ℤ, Bool, true, false, cond, List, [], ◌∷◌, length, Some, None, refl, sym, ap, ◌∙◌, subst, arith}
 use Rattle.ax_machine.specs.Entries.{Key}
 use Rattle.ax_account.specs.declared.part.Waiting.{Waiting}
 use Rattle.ax_account.specs.declared.part.Waiting.TheVariants as item
