@@ -1,7 +1,6 @@
 -- Of each shard at most one batch is out, and its replies name it.
-use Rattle.std.proofs.Common.{◌≡◌, ℕ, zero, suc, ◌+◌, ◌<◌, List, [], ◌∷◌, ◌++◌, map, length, get_or, set, replicate, refl, sym, ap, ap₂, ◌∙◌, subst, arith}
+use Rattle.std.proofs.Common.{◌≡◌, ℕ, zero, suc, ◌<◌, List, [], ◌∷◌, ◌++◌, map, length, get_or, set, replicate, refl, sym, ap, ap₂, ◌∙◌, arith}
 use Rattle.std.proofs.lemmas.List.{append-nil, map-set, length-map}
-use Rattle.ax_base.specs.declared.lists.ListOf.{ListOf}
 use Rattle.ax_lang.specs.Shown.{shown_program}
 use Rattle.ax_buffer.specs.declared.items.Reply.{Reply}
 use Rattle.ax_buffer.specs.Buffer.{total}

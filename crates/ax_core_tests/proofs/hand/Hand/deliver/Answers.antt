@@ -1,4 +1,4 @@
-use Rattle.std.proofs.Common.{◌≡◌, ◌+◌, ◌<◌, List, [], length, get_or, ap, sym, ◌∙◌, subst, arith}
+use Rattle.std.proofs.Common.{◌<◌, List, [], length, ap, sym, ◌∙◌, subst, arith}
 use Rattle.ax_lang.specs.declared.program.Program.{Program}
 use Rattle.ax_buffer.specs.declared.items.Reply.{Reply}
 use Rattle.ax_core.specs.Events.{names_of}

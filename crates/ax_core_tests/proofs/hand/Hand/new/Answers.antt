@@ -1,4 +1,4 @@
-use Rattle.std.proofs.Common.{◌≡◌, [], List, replicate, ap, sym, ◌∙◌, subst, ℕ}
+use Rattle.std.proofs.Common.{[], replicate, ap, sym, ◌∙◌, subst}
 use Rattle.ax_lang.specs.Shown.{shown_program}
 use Rattle.ax_lang.specs.declared.program.Program.{Program}
 use Rattle.ax_execution.specs.Origins.{first}

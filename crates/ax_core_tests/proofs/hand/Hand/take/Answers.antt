@@ -1,7 +1,7 @@
-use Rattle.std.proofs.Common.{◌≡◌, ◌<◌, ◌++◌, List, [], length, set, ap, sym, ◌∙◌, subst}
+use Rattle.std.proofs.Common.{◌<◌, List, set, ap, sym, ◌∙◌, subst}
 use Rattle.ax_lang.specs.declared.program.Program.{Program}
 use Rattle.ax_core.specs.declared.record.Name.{Name}
-use Rattle.ax_core.specs.Events.{names_in, names_of}
+use Rattle.ax_core.specs.Events.{names_in}
 use Rattle.ax_core_tests.specs.Hands.{AreFor}
 use Rattle.ax_core_tests.proofs.Hands.{as_many, only_batch, out_set}
 use Rattle.ax_core_tests.proofs.hand.Hand.take.Goals as goal
