@@ -20,6 +20,7 @@ use Rattle.ax_account.specs.declared.part.Waiting.TheVariants as item
 use Rattle.ax_account.specs.declared.part.Next.{Next}
 use Rattle.ax_account.specs.declared.part.Next.TheVariants as next
 use Rattle.ax_account.specs.Parts.{Part, next_of, taken_up, is_mark, may_idle}
+use Rattle.ax_account.specs.Queues.{has_key}
 use Rattle.ax_account.specs.Accounts.{part_of, waiting_of, Changes}
 use Rattle.ax_mailbox.specs.declared.mail.Mail.{Mail}
 use Rattle.ax_mailbox.specs.declared.mail.Mail.TheVariants as mail
@@ -241,7 +242,7 @@ module _ (a : Controller) (m : MachineControl) (first : Mail) (ns : List Mail) (
       stands_over = record {
         wm = x.stands.wm;
         keys = keys_over;
-        idle = λ k differ i. hands.idle k differ ∙ x.stands.idle k (sym (ap is_idle_on (other_control m.controls key control k (differ_key k differ))) ∙ i);
+        idle = λ k differ i. ap (λ (ks : List Key). has_key ks k) hands.idle ∙ x.stands.idle k (sym (ap is_idle_on (other_control m.controls key control k (differ_key k differ))) ∙ i);
         flight =
             let fewer : in_flight_on behind + 1 ≡ in_flight_on m = flight_ends a m ns id h after t e c x orderly done in
             omega (arith, fewer, given.len, live_asked, x.stands.flight);

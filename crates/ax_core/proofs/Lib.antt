@@ -51,3 +51,4 @@ pub mod MailRuns
 pub mod Orders
 pub mod CallOrder
 pub mod BatchFits
+pub mod IdleKeys
