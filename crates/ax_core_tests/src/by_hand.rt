@@ -165,7 +165,14 @@ fn call(rt: &impl Abort, hand: &mut Hand, line: &str, told: &mut String)
 }
 
 // What these calls tell.
-fn told_by(rt: &impl Abort, alloc: Global, text: &str, serial: bool, in_flight: u32, calls: &str) -> String {
+fn told_by(
+    rt: &impl Abort,
+    alloc: Global,
+    text: &str,
+    serial: bool,
+    in_flight: u32,
+    calls: &str,
+) -> String {
     let settings = Settings {
         serial,
         shards: 8,
@@ -188,7 +195,8 @@ const SUMS: &str = "input 1;state c value;on row;x = get c or 0;put c x + v1;emi
 const TIMERS: &str = "input 1;on row;timer v1;emit 1 , v1;end;on timer;emit 2 , time , wm;end";
 
 // Two requests at once.
-const ARMS: &str = "input 0;state p value;state q value;on row;both;x = get p or 3;with;y = get q or 4;end;put p y;put q x;emit x , y;end";
+const ARMS: &str =
+    "input 0;state p value;state q value;on row;both;x = get p or 3;with;y = get q or 4;end;put p y;put q x;emit x , y;end";
 
 // Each line has the mode, how many may be in flight, calls, and what they tell. The key a is of shard 5, b of shard 1.
 

@@ -1,6 +1,6 @@
 //! Command lines, and what they ask for.
 use ax_base::{ListOf, NoMemory};
-use ax_words::{Options, WordFault, read_words};
+use crate::{Options, WordFault, read_words};
 use std::alloc::Global;
 use std::test::Fail;
 
