@@ -111,7 +111,9 @@ fn drawn_call(
             let value = below(more, 20) as i64;
             let at = below(next_draw(more), 3);
             let key = key_of(rt, alloc, at);
-            let admitted = hand.admit(key, time, one_value(rt, alloc, value)).expect(rt, "memory");
+            let admitted = hand
+                .admit(key, time, one_value(rt, alloc, value))
+                .expect(rt, "memory");
             admitted?;
             Some(Event::Row {
                 key: key_of(rt, alloc, at),
@@ -202,7 +204,15 @@ fn sorted_out(rt: &impl Abort, alloc: Global, out: &SureSink) -> Written {
 }
 
 // The key whose lines differ, if any, by so many calls that are drawn.
-fn differs(rt: &impl Abort, alloc: Global, text: &str, serial: bool, in_flight: u32, seed: u64, calls: i64) -> &'static str {
+fn differs(
+    rt: &impl Abort,
+    alloc: Global,
+    text: &str,
+    serial: bool,
+    in_flight: u32,
+    seed: u64,
+    calls: i64,
+) -> &'static str {
     let settings = Settings {
         serial,
         shards: 4,

@@ -31,7 +31,11 @@ pub fn no_states(alloc: Global, program: &Program) -> Result<States, NoMemory>
 }
 
 // A request that fits, and nothing at another.
-fn serve_request(program: &Program, cells: &mut KeyCells, request: &Request) -> Result<Answer, NoMemory>
+fn serve_request(
+    program: &Program,
+    cells: &mut KeyCells,
+    request: &Request,
+) -> Result<Answer, NoMemory>
     requires { cell_kinds cells.old ≡ shown_kinds program.now }
     ensures { cell_kinds cells.new ≡ shown_kinds program.now }
 {

@@ -1,6 +1,6 @@
 //! Command lines, and what they ask for.
-use ax_base::{ListOf, NoMemory};
 use crate::{Options, WordFault, read_words};
+use ax_base::{ListOf, NoMemory};
 use std::alloc::Global;
 use std::test::Fail;
 
