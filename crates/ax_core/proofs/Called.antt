@@ -72,7 +72,7 @@ others_differ id i differ = by_cases (same_id id i) (λ x. absurd (differ (sym (
 
 -- ---- a handler begins
 
-is_unbegun : (a : Controller) (id : Id) (o : Option Machine) (stage : Stage) → o ≡ None → StageStands a.program a.mails.mails id o stage → stage ≡ Unbegun
+pub is_unbegun : (a : Controller) (id : Id) (o : Option Machine) (stage : Stage) → o ≡ None → StageStands a.program a.mails.mails id o stage → stage ≡ Unbegun
 is_unbegun a id None Unbegun e y = refl
 is_unbegun a id None (Begun r) e y = absurd y
 is_unbegun a id (Some code) stage e y = absurd (none_some (sym e))

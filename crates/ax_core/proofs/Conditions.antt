@@ -37,7 +37,7 @@ use Rattle.ax_core.proofs.Fronts.{behind_mail, IsStartOf, start_counts}
 use Rattle.ax_core.proofs.Owners.{RunsAt, runs_at, names_itself}
 use Rattle.ax_core.proofs.Serves.{WaitsAt as Waiter, waits_there}
 
-at_least : (b : Bool) → 1 ≤ one_if b → b ≡ true
+pub at_least : (b : Bool) → 1 ≤ one_if b → b ≡ true
 at_least true h = refl
 at_least false h = absurd (omega arith)
 

@@ -52,3 +52,4 @@ pub mod Orders
 pub mod CallOrder
 pub mod BatchFits
 pub mod IdleKeys
+pub mod MailWaits

@@ -59,8 +59,8 @@ impl Controller {
 
     /// Takes the replies to a batch: each becomes a mail, in order.
     ///
-    /// Conditions: the replies name, in order, the ids and slots of one batch that was taken and not yet delivered, and each
-    /// answer has a form that its request has, as serving the batch gives them.
+    /// Condition: the replies name, in order, the ids and slots of one batch that was taken and not yet delivered. Each answer
+    /// should have a form that its request has, as serving the batch gives them.
     pub fn deliver(&mut self, r: Replies)
         requires sound { IsSound self.old }
         requires out { IsBatchOut self.old r }

@@ -1,5 +1,5 @@
 //! Callbacks run.
-ghost use Rattle.std.specs.Prelude.{◌≡◌, ◌≤◌, ◌<◌, ◌+◌, ◌∷◌, [], true, false, length, IsSome, IfOk, OnOk};
+ghost use Rattle.std.specs.Prelude.{◌≡◌, ◌↔◌, ◌≤◌, ◌<◌, ◌+◌, ◌∷◌, [], true, false, length, IsTrue, IsSome, IfOk, OnOk};
 ghost use Rattle.ax_text.specs.Run.{time_after, times_after};
 ghost use Rattle.ax_time.specs.Timers.{PutsTimes, times_of};
 ghost use Rattle.ax_context.specs.Slots.{Has, IsLive, live_count};
@@ -12,7 +12,7 @@ ghost use Rattle.ax_execution.specs.MachineControls.{MachineControl};
 ghost use Rattle.ax_core.specs.declared.effects.Ran.TheVariants as ran;
 ghost use Rattle.ax_core.specs.May.{has_mail};
 ghost use Rattle.ax_core.specs.Sound.{StandsFor, IsSound};
-ghost use Rattle.ax_core.specs.Events.{SameRules, KeysStay, Runs};
+ghost use Rattle.ax_core.specs.Events.{SameRules, KeysStay, Runs, MayCallOn};
 ghost use Rattle.ax_core.specs.Order.{RunsFirst, idle_in};
 ghost use Rattle.ax_core.specs.Callbacks.{Begins, WaitsAt, ResumedAt, HasBegun, HasResumed, item_for, items_for, IsHeld, IsQueued, ending, behind_marks, ended, all_left, AllMayLeave, row_epochs, with_start, waits_next, HandsOver, GoesOn};
 ghost use Rattle.ax_core.specs.Calls.{CallEnds, IsReady, MayStart, MayReply, Started, Replied};
@@ -36,6 +36,14 @@ use std::alloc::Global;
 impl Controller {
     /// Whether a mail waits: a handler that is to begin, or an answer that is to be given.
     pub fn mail_waits(&self) -> bool
+        ensures value { result ≡ has_mail self.now }
+        ensures exact { (m : MachineControl) → IsSound self.now → StandsFor self.now m → IsTrue result ↔ MayCallOn self.now m }
+    {
+        self.has_mail()
+    }
+
+    // The same test.
+    fn has_mail(&self) -> bool
         ensures { result ≡ has_mail self.now }
     {
         self.mails.len() > 0
