@@ -16,6 +16,15 @@ fn number(word: Option<&str>) -> i64 {
     word.unwrap_or("0").parse::<i64>().unwrap_or(0)
 }
 
+// The same of a small number.
+fn small(word: Option<&str>) -> u32 {
+    u32::try_from(number(word)).unwrap_or(0)
+}
+
+fn shard_in(word: Option<&str>) -> u16 {
+    u16::try_from(number(word)).unwrap_or(99)
+}
+
 fn note_fired(rt: &impl Abort, told: &mut String, f: &Fired) {
     let key = str::from_utf8(f.key.as_bytes()).unwrap_or("?");
     write!(told, " F{}{key}@{}/{}", f.context, f.time, f.mark).expect(rt, "memory");
@@ -144,13 +153,13 @@ fn call(rt: &impl Abort, hand: &mut Hand, line: &str, told: &mut String)
         }
         "M" => mails(rt, hand, told),
         "s" => {
-            let shard = number(words.next()) as u16;
-            let max = number(words.next()) as u32;
+            let shard = shard_in(words.next());
+            let max = small(words.next());
             batch(rt, hand, shard, max, told);
         }
         "S" => batches(rt, hand, told),
         "d" => {
-            let shard = number(words.next()) as u16;
+            let shard = shard_in(words.next());
             let _count = hand.deliver(shard);
         }
         "f" => match hand.fire().expect(rt, "memory") {
@@ -267,7 +276,7 @@ fn first_wrong(rt: &impl Abort, alloc: Global, text: &str, table: &str) -> Strin
     for case in table.lines() {
         let mut parts = case.split('|');
         let serial = parts.next().unwrap_or("") == "serial";
-        let in_flight = number(parts.next()) as u32;
+        let in_flight = small(parts.next());
         let calls = parts.next().unwrap_or("");
         let told = told_by(rt, alloc, text, serial, in_flight, calls);
         if told.as_str() != parts.next().unwrap_or("") {

@@ -1,5 +1,5 @@
 //! A controller whose calls are drawn, beside the plain thread: what it writes of each key, and its watermarks.
-ghost use Rattle.std.specs.Prelude.{◌≡◌};
+ghost use Rattle.std.specs.Prelude.{◌≡◌, ◌≤◌};
 ghost use Rattle.ax_lang.specs.Shown.{shown_kinds};
 ghost use Rattle.ax_plain.specs.Plain.{ThreadFits};
 ghost use Rattle.ax_core_tests.specs.Hands.{IsReady};
@@ -25,7 +25,9 @@ fn next_draw(draw: u64) -> u64 {
 }
 
 // A number below `most`, by the upper bits of a draw.
-fn below(draw: u64, most: u64) -> u64 {
+fn below(draw: u64, most: u64) -> u64
+    ensures { result ≤ most }
+{
     if most == 0 { 0 } else { (draw >> 33) % most }
 }
 
