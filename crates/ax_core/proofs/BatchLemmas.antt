@@ -20,7 +20,7 @@ use Rattle.ax_core.specs.Contexts.{waits_in, waits_at}
 use Rattle.ax_core.specs.Flow.{shard_of, one_if, queued_as, named_as, answered_as, in_queues, in_outs, waits_for, OwnsBegun, OwnsOnceBegun, IsAsked, QueuedStands, OutStands, out_of, IsFlow, on_the_way}
 use Rattle.ax_core.specs.Stands.{Stands}
 use Rattle.ax_core.specs.Sound.{StandsFor, IsSound}
-use Rattle.ax_core.specs.Events.{SameRules, StageAsksIt, OwnerAsks, Asks, AsksAll, names_in, AreOut}
+use Rattle.ax_core.specs.Events.{SameRules, StageAsksIt, OwnerAsks, Asks, AsksAll, names_in, AreOut, key_in, OfKeys}
 use Rattle.ax_core.proofs.Counting.{named_names, queues_taken, outs_named, outs_longer, of_names, length_names}
 use Rattle.ax_core.proofs.Waits.{waits_here}
 use Rattle.ax_core.proofs.Owners.{runs_at, unanswered, queued_there}
@@ -208,3 +208,22 @@ module _ (a : Controller) (m : MachineControl) (flow : IsFlow a) (stands : Stand
   pub asks_batch : (shard max : ℕ) → AsksAll a shard m (take max (queue_of a.buffer shard))
   asks_batch shard max = asks_all shard (take max (queue_of a.buffer shard))
       (λ i h. subst (λ (is : List Item). Contains is i) (take-append-drop max (queue_of a.buffer shard)) (Contains-append_left (take max (queue_of a.buffer shard)) (drop max (queue_of a.buffer shard)) i h))
+
+-- what waits in a queue is of its context's key
+module _ (a : Controller) (flow : IsFlow a) (shard : ℕ) where
+  key_as : (i : Item) (o : Option (Held Record)) → QueuedStands a shard i o → key_in o ≡ i.key
+  key_as i None x = absurd x
+  key_as i (Some h) x = sym x.key
+
+  of_keys_all : (is : List Item) → ((i : Item) → Contains is i → Contains (queue_of a.buffer shard) i) → OfKeys a is
+  of_keys_all [] h = tt
+  of_keys_all (i ∷ is) h = (key_as i (at a.contexts i.id) (flow.queued shard i (h i (0, omega arith, refl))), of_keys_all is (λ j d. h j (suc d.0, omega (arith, d.1), d.2)))
+
+  pub of_keys : (max : ℕ) → OfKeys a (take max (queue_of a.buffer shard))
+  of_keys max = of_keys_all (take max (queue_of a.buffer shard))
+      (λ i h. subst (λ (is : List Item). Contains is i) (take-append-drop max (queue_of a.buffer shard)) (Contains-append_left (take max (queue_of a.buffer shard)) (drop max (queue_of a.buffer shard)) i h))
+
+-- these are the contexts of another controller, too
+pub of_keys_in : (a b : Controller) → b.contexts ≡ a.contexts → (is : List Item) → OfKeys a is → OfKeys b is
+of_keys_in a b same [] x = tt
+of_keys_in a b same (i ∷ is) x = ((λ j. key_in (at (same j) i.id)) ∙ x.0, of_keys_in a b same is x.1)
