@@ -1,5 +1,5 @@
 -- A request that is asked and not served stays so, until it is served.
-use Rattle.std.proofs.Common.{◌≡◌, ℕ, zero, suc, ℤ, int_le, List, [], ◌∷◌, ◌++◌, map, Bool, true, false, cond, nat_eq, Option, Some, None, refl, sym, ap, ap₂, ◌∙◌, subst, eqb-true}
+use Rattle.std.proofs.Common.{◌≡◌, ℕ, zero, suc, ℤ, int_le, List, [], ◌∷◌, ◌++◌, map, Bool, true, false, cond, ◌||◌, nat_eq, Option, Some, None, refl, sym, ap, ap₂, ◌∙◌, subst, eqb-true}
 use Rattle.std.proofs.lemmas.Bool.{cond-true, cond-false, both_ways, eq-eqb}
 use Rattle.std.specs.Str.{bytes_eq}
 use Rattle.ax_text.specs.declared.vocabulary.Request.{Request}
@@ -8,6 +8,7 @@ use Rattle.ax_text.specs.Functions.{upd}
 use Rattle.ax_text.specs.Exprs.{Facts}
 use Rattle.ax_text.specs.Prints.{has}
 use Rattle.ax_text.specs.Programs.{Program}
+use Rattle.ax_text.specs.Jobs.{firing_job}
 use Rattle.ax_text.specs.Controls.{Control, Done, Wait, Arms, Ask' as Asked, Turn, Answers, slots, waiting, replaced, without, is_done, request_at}
 use Rattle.ax_text.proofs.Asked.{slots_waiting}
 use Rattle.ax_text.proofs.Steps.{without_keeps}
@@ -17,16 +18,17 @@ use Rattle.ax_machine.proofs.FiringLemmas.{key_is, same_key}
 use Rattle.ax_buffer.specs.declared.items.Item.{Item}
 use Rattle.ax_execution.specs.Accepted.{AreAccepted}
 use Rattle.ax_execution.specs.Groups.{row_facts}
-use Rattle.ax_execution.specs.Contexts.{Running, Stage, Unbegun, Begun, Context, Waiting, Row, Mark, is_due, may_fire}
+use Rattle.ax_execution.specs.Contexts.{Running, Stage, Unbegun, Begun, Context, new_context, Waiting, Row, Mark, is_due, may_fire}
 use Rattle.ax_execution.specs.Asks.{stage_waits, owner_waits, waits_behind, AreOutside, slots_beside}
 use Rattle.ax_execution.specs.Machine.{ByWatermark, ByBarrier, Closed, Happening, Admit, Close, Fire, Start, Serve, Deliver, Send, Rules}
 use Rattle.ax_execution.specs.Allowed.{StageUnbegun, StageHas, OfOwner}
-use Rattle.ax_execution.specs.Turns.{gives}
+use Rattle.ax_execution.specs.Turns.{gives, staged}
 use Rattle.ax_execution.specs.KeyControls.{KeyControl}
-use Rattle.ax_execution.specs.ControlTurns.{handed_on, called_back_on, start_on, give_answer_on, deliver_stage_on, deliver_owner_on, deliver_on, fire_due_on, fire_front_on, fire_on, admit_at_on, admit_on, mark_at_on, mark_on}
+use Rattle.ax_execution.specs.ControlTurns.{handed_on, paused, called_back_on, start_on, give_answer_on, deliver_stage_on, deliver_owner_on, deliver_on, fire_due_on, fire_front_on, fire_on, admit_at_on, admit_on, mark_at_on, mark_on}
 use Rattle.ax_execution.specs.MachineControls.{MachineControl, control_at, send_first_on, happens_on, outcome_on}
 use Rattle.ax_execution.specs.ControlsAllowed.{AllowedOn, IsAnswered}
 use Rattle.ax_execution.specs.Reached.{IsReached}
+use Rattle.ax_execution.proofs.SingleKeys.{keyed}
 use Rattle.ax_execution.proofs.Upto.{by_cases}
 use Rattle.ax_execution.proofs.ControlWaits.{waits_on, outside_on}
 use Rattle.ax_execution.proofs.ReachedOrderly.{reached_in_order, reached_sound}
@@ -150,14 +152,14 @@ handed_blank slot [] times = tt
 handed_blank slot (Row n e f ∷ is) times = tt
 handed_blank slot (Mark e w more ∷ is) times = of (may_fire w more times) (handed_blank slot is times)
   where
-    of : (b : Bool) → OwnerBlank slot (handed_on is times).owner → OwnerBlank slot (cond b (record { owner = None; waiting = Mark e w more ∷ is; times = times }) (handed_on is times)).owner
+    of : (b : Bool) → OwnerBlank slot (handed_on is times).owner → OwnerBlank slot (cond b (keyed None (Mark e w more ∷ is) times) (handed_on is times)).owner
     of true h = tt
     of false h = h
 
 back_blank : (slot : ℕ) (c : Context) (t : Turn) (answers : Answers) (is : List Waiting) (times : List ℤ) → answers slot ≡ None → OwnerBlank slot (called_back_on c t answers is times).owner
 back_blank slot c t answers is times h = of (is_done t.control)
   where
-    of : (b : Bool) → OwnerBlank slot (cond b (handed_on is times) (record { owner = Some _; waiting = is; times = times })).owner
+    of : (b : Bool) → OwnerBlank slot (cond b (handed_on is times) (keyed (Some (staged c (Begun (paused t answers)))) is times)).owner
     of true = handed_blank slot is times
     of false = h
 
@@ -172,7 +174,7 @@ admit_blank slot n e f c h = of c.owner c.waiting h
 mark_blank : (slot e : ℕ) (w : ℤ) (more : ℕ) (c : KeyControl) → OwnerBlank slot c.owner → OwnerBlank slot (mark_on e w more c).owner
 mark_blank slot e w more c h = of c.owner c.waiting h
   where
-    either : (b : Bool) (x y : List Waiting) → OwnerBlank slot (cond b (record { owner = None; waiting = x; times = c.times }) (record { owner = None; waiting = y; times = c.times })).owner
+    either : (b : Bool) (x y : List Waiting) → OwnerBlank slot (cond b (keyed None x c.times) (keyed None y c.times)).owner
     either true x y = tt
     either false x y = tt
 
@@ -188,7 +190,7 @@ fire_blank slot n c h = of c.owner c.waiting
     due e w more is [] = h
     due e w more is (t ∷ ts) = fires (int_le t w)
       where
-        fires : (b : Bool) → OwnerBlank slot (cond b (record { owner = Some _; waiting = Mark e w more ∷ is; times = ts }) c).owner
+        fires : (b : Bool) → OwnerBlank slot (cond b (keyed (Some (new_context n e (firing_job w t))) (Mark e w more ∷ is) ts) c).owner
         fires true = tt
         fires false = h
 
