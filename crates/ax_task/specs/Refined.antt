@@ -16,10 +16,14 @@ use Rattle.ax_execution.specs.Allowed.{IsRun}
 use Rattle.ax_execution.specs.MachineControls.{control_of_machine}
 use Rattle.ax_core.specs.declared.settings.Settings.{Settings}
 use Rattle.ax_core.specs.declared.controller.Controller.{Controller}
-use Rattle.ax_core.specs.Flow.{out_of}
+use Rattle.ax_core.specs.Flow.{shard_of, out_of}
 use Rattle.ax_core.specs.Sound.{rules_of, StandsFor}
 use Rattle.ax_core.specs.Events.{Asks, names_in, key_in}
 use Rattle.ax_task.specs.Serving.{Content}
+
+-- what the states of keys hold, each in the shard of its key
+abbrev pub content_over : Settings → (ℕ → Content) → Content
+content_over s held k = held (shard_of s k) k
 
 -- the machine behind events that are allowed each at its place, from before the first event: the states of keys hold this, the plain thread
 -- does the same with what was read as with what the machine took, and this was written
