@@ -1,4 +1,4 @@
--- What the shards hold: at the start, under a batch, and behind it; and that each request that goes out can be served.
+-- What the shards hold: at the start, and behind a batch.
 use Rattle.std.proofs.Common.{◌≡◌, ◌≢◌, ℕ, List, [], ◌∷◌, Bool, true, false, nat_eq, Option, Some, None, refl, sym, ap, ap₂, ◌∙◌, subst, eqb-true, ◌<◌, arith}
 use Rattle.std.proofs.lemmas.Bool.{cond-true, cond-false, eq-eqb}
 use Rattle.std.proofs.lemmas.List.Elements.{All-from_recursion}
@@ -73,33 +73,6 @@ content_served s held held' shard batch placed here others k = by_cases (nat_eq 
       by_cases (bytes_eq i.key k) (λ x. absurd (apart (ap (shard_of s) (sym (key_is i.key k x)) ∙ h.0))) (λ x. x),
       all_apart apart is h.1,
     )
-
--- each request of a batch can be served by the program's states
-module _ (p : Program) (mails : List Mail) (i : Item) where
-  running_fits : (id : Id) (m : CodeMachine) (r : Running) → IsRunning p mails id m r → request_at r.control i.slot ≡ Some i.request → fits_in (shown_kinds p) i.request ≡ true
-  running_fits id m r x e = request_suits (shown_kinds p) _ i.slot i.request x.sound.suits (ap (λ (c : Control). request_at c i.slot) x.control ∙ e)
-
-  stage_fits : (id : Id) (m : Option CodeMachine) (st : Stage) → StageStands p mails id m st → StageAsksIt i st → fits_in (shown_kinds p) i.request ≡ true
-  stage_fits id None Unbegun x h = absurd h
-  stage_fits id None (Begun r) x h = absurd x
-  stage_fits id (Some m) Unbegun x h = absurd x
-  stage_fits id (Some m) (Begun r) x h = running_fits id m r x h.0
-
-  context_fits : (key : Key) (id : Id) (o : Option (Held Record)) (c : Context) → ContextStands p mails key id o c → StageAsksIt i c.stage → fits_in (shown_kinds p) i.request ≡ true
-  context_fits key id None c x h = absurd x
-  context_fits key id (Some held) c x h = stage_fits id held.payload.machine c.stage x.stage h
-
-  owner_fits : (s : Slots Record) (key : Key) (o : Option Id) (c : Option Context) → OwnerStands p mails s key o c → OwnerAsks i c → fits_in (shown_kinds p) i.request ≡ true
-  owner_fits s key o None x h = absurd h
-  owner_fits s key None (Some c) x h = absurd x
-  owner_fits s key (Some id) (Some c) x h = context_fits key id (at s id) c x h
-
-pub batch_fits : (a : Controller) (shard : ℕ) (c : MachineControl) (is : List Item) → StandsFor a c → AsksAll a shard c is → AllFit (shown_kinds a.program) is
-batch_fits a shard c is stands h = All-from_recursion (λ (i : Item). fits_in (shown_kinds a.program) i.request ≡ true) is (all is h)
-  where
-    all : (is : List Item) → AsksAll a shard c is → AllByRecursion (λ (i : Item). fits_in (shown_kinds a.program) i.request ≡ true) is
-    all [] h = tt
-    all (i ∷ is) h = (owner_fits a.program a.mails.mails i a.contexts i.key (part_of a.accounts i.key).owner (c.controls i.key).owner (stands.stands.keys i.key).owner h.0.asks, all is h.1)
 
 -- before the first event
 module _ (s : Settings) (p : Program) (a : Controller) (program : a.program ≡ p) (settings : a.settings ≡ s) (content : Content) (out : ℕ → List Item) where
