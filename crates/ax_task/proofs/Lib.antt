@@ -6,3 +6,8 @@ pub mod Sections
 pub mod Stopped
 pub mod Whole
 pub mod Parsed
+pub mod KeptAsks
+pub mod Served
+pub mod Refining
+pub mod Things
+pub mod Batches
