@@ -4,3 +4,5 @@ pub mod Clause
 pub mod Reads
 pub mod Passes
 pub mod Laws
+pub mod Serving
+pub mod Shards

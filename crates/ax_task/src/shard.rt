@@ -1,16 +1,12 @@
 //! A shard: what the states of its keys hold, and the batches that it serves.
-ghost use Rattle.std.specs.Prelude.{◌≡◌, ◌≢◌, ℕ, List, map, true, false, Ok, Err, Some, None, IfOk, IfSome, OnOk, OnErr, MatchOption};
-ghost use Rattle.std.specs.List.{All};
-ghost use Rattle.std.specs.List.Sorted.{IsStrictlySortedBy};
+ghost use Rattle.std.specs.Prelude.{◌≡◌, [], true, IfOk, IfSome, IfNone, OnOk, OnErr, None};
 ghost use Rattle.std.specs.Map.{lookup};
 ghost use Rattle.std.specs.BTreeMap.{is_at};
 ghost use Rattle.ax_keys.specs.Keys.{key_cmp};
 ghost use Rattle.ax_text.specs.Cells.{answer_of};
-ghost use Rattle.ax_text.specs.Programs.{untouched};
 ghost use Rattle.ax_text.specs.Suits.{fits_in};
-ghost use Rattle.ax_machine.specs.Entries.{Key as KeyBytes};
 ghost use Rattle.ax_state.specs.Decls.{kinds};
-ghost use Rattle.ax_task.specs.Serving.{Serves, AllFit, Holding, content_of, content_with, reply_to};
+ghost use Rattle.ax_task.specs.Serving.{Serves, AllFit, content_of, content_with, reply_to};
 
 use ax_base::{Duplicate, NoMemory};
 use ax_buffer::{Batch, Item, Replies, Reply};
@@ -112,10 +108,10 @@ impl Shard {
         let mut cells = KeyCells::new(self.alloc, &self.decls)?;
         let answer = cells.apply(&item.request)?;
         let key = item.key.copy(self.alloc)?;
-        match self.states.insert(key, cells) {
-            Ok(_) => Ok(answer),
-            Err(_) => Err(NoMemory),
-        }
+        let Ok(_) = self.states.insert(key, cells) else {
+            return Err(NoMemory);
+        };
+        Ok(answer)
     }
 }
 

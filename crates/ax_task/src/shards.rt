@@ -1,14 +1,14 @@
 //! The shards of a task that serves them itself: each is home, or out with a batch until the batch is served.
-ghost use Rattle.std.specs.Prelude.{◌≡◌, ◌≢◌, ◌<◌, ◌↔◌, ◌++◌, ◌∷◌, ◌%◌, ◌^◌, [], ℕ, List, IsTrue, IfOk, IfSome, IfNone, MatchOption, replicate, drop};
+ghost use Rattle.std.specs.Prelude.{◌≡◌, ◌≢◌, ◌<◌, ◌↔◌, ◌++◌, ◌∷◌, [], ℕ, List, IsTrue, IfOk, IfSome, IfNone, MatchOption, replicate, drop};
 ghost use Rattle.ax_text.specs.Functions.{upd};
 ghost use Rattle.ax_machine.specs.Entries.{Key as KeyBytes};
 ghost use Rattle.ax_text.specs.Programs.{untouched};
 ghost use Rattle.ax_state.specs.Decls.{kinds};
 ghost use Rattle.ax_task.specs.Serving.{AllFit};
-ghost use Rattle.ax_task.specs.Shards.{shard_count, held, out, Stays, Came, IsNext, choice, nothing_held};
+ghost use Rattle.ax_task.specs.Shards.{shard_count, held, out, Stays, Came, IsNext, place_in, nothing_held};
 
 use crate::shard::Shard;
-use ax_base::{Duplicate, ListOf, NoMemory, Nums};
+use ax_base::{Duplicate, NoMemory, Nums};
 use ax_buffer::{Batch, Replies};
 use ax_state::Decls;
 use std::alloc::Global;
@@ -114,9 +114,54 @@ impl Shards {
         ensures none { IfNone result ((s : ℕ) → out self.new s ≡ []) }
         ensures next { IfSome result (λ back. IsNext self.old self.new back.shard) }
     {
-        let Some(shard) = self.take_next() else {
+        if self.sent.is_empty() {
             return None;
-        };
-        Some(self.serve(shard))
+        }
+        let place = next_place(&mut self.order, self.sent.len());
+        let shard = self.sent.remove(place);
+        let at = usize::from(shard);
+        let batch = mem::replace(&mut self.batches[at], Batch::new(self.alloc));
+        let replies = self.shards[at].serve(&batch);
+        Some(Back { shard, replies })
     }
+}
+
+// Shards whose keys were never touched.
+fn new_shards(alloc: Global, count: u16, decls: &Decls) -> Result<Vec<Shard>, NoMemory>
+    ensures { IfOk result (λ shards. shards.items ≡ replicate count (nothing_held (kinds decls.now))) }
+{
+    let mut shards = Vec::new(alloc);
+    for _ in 0..count {
+        let Ok(()) = shards.push(Shard::new(alloc, decls)?) else {
+            return Err(NoMemory);
+        };
+    }
+    Ok(shards)
+}
+
+// No batch for any shard.
+fn no_batches(alloc: Global, count: u16) -> Result<Vec<Batch>, NoMemory>
+    ensures { IfOk result (λ batches. batches.items ≡ replicate count []) }
+{
+    let mut batches = Vec::new(alloc);
+    for _ in 0..count {
+        let Ok(()) = batches.push(Batch::new(alloc)) else {
+            return Err(NoMemory);
+        };
+    }
+    Ok(batches)
+}
+
+// Which of so many batches is served next. Its number is used up.
+fn next_place(order: &mut VecDeque<i64>, count: usize) -> usize
+    requires { 0 < count }
+    ensures place { result ≡ place_in order.old.items count }
+    ensures small { result < count }
+    ensures rest { order.new.items ≡ drop 1 order.old.items }
+{
+    let choice = match order.pop_front() {
+        Some(number) => number.cast_unsigned() % (1 << 63),
+        None => 0,
+    };
+    choice as usize % count
 }
