@@ -49,3 +49,4 @@ pub mod CalledFlow
 pub mod CallFlows
 pub mod MailRuns
 pub mod Orders
+pub mod BatchFits

@@ -1,6 +1,8 @@
 //! Requests go out in batches, and replies come back.
-ghost use Rattle.std.specs.Prelude.{◌≡◌, ◌+◌, ◌<◌, ◌≤◌, ◌++◌, length, take, slice_set, IfOk, OnOk};
-ghost use Rattle.std.specs.List.{remove_range};
+ghost use Rattle.std.specs.Prelude.{◌≡◌, ◌+◌, ◌<◌, ◌≤◌, ◌++◌, length, take, slice_set, true, IfOk, OnOk};
+ghost use Rattle.std.specs.List.{remove_range, All};
+ghost use Rattle.ax_text.specs.Suits.{fits_in};
+ghost use Rattle.ax_lang.specs.Shown.{shown_kinds};
 ghost use Rattle.ax_buffer.specs.Buffer.{queue_of};
 ghost use Rattle.ax_execution.specs.MachineControls.{MachineControl};
 ghost use Rattle.ax_core.specs.Flow.{out_of};
@@ -29,7 +31,7 @@ impl Controller {
     }
 
     /// Takes the first `max` requests of a shard's queue, or all where it has fewer, in order. They are out until their
-    /// replies are delivered.
+    /// replies are delivered. Each fits the states that the program declares.
     ///
     /// Conditions: the shard is below the settings' `shards`; `active_len(shard)` and `max` are above 0.
     pub fn batch_for(&mut self, shard: u16, max: u32) -> Result<Batch, NoMemory>
@@ -42,6 +44,7 @@ impl Controller {
         ensures batch { IfOk result (λ batch. batch ≡ take max (queue_of self.old.buffer shard)) }
         ensures stands { OnOk result ((m : MachineControl) → StandsFor self.old m → StandsFor self.new m) }
         ensures asks { IfOk result (λ batch. (m : MachineControl) → StandsFor self.old m → AsksAll self.old shard m batch) }
+        ensures fit { IfOk result (λ batch. All (λ i. fits_in (shown_kinds self.old.program) i.request ≡ true) batch) }
         ensures out { IfOk result (λ batch. AreOut self.new shard batch) }
         ensures outs { IfOk result (λ batch. self.new.outs.items ≡ slice_set self.old.outs.items shard (out_of self.old shard ++ names_in batch)) }
         ensures keys_of { IfOk result (λ batch. OfKeys self.new batch) }
