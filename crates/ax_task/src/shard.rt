@@ -19,9 +19,9 @@ use std::marker::Model;
 /// A shard, which holds the states of each key that had a request.
 #[derive(Drop)]
 pub struct Shard {
-    alloc: Global,
-    decls: Decls,
-    states: BTreeMap<Key, KeyCells>,
+    pub(crate) alloc: Global,
+    pub(crate) decls: Decls,
+    pub(crate) states: BTreeMap<Key, KeyCells>,
 }
 
 impl Model for Shard {

@@ -27,9 +27,9 @@ pub struct Back {
 /// numbers.
 #[derive(Drop)]
 pub struct Shards {
-    alloc: Global,
-    decls: Decls,
-    shards: Vec<Shard>,
+    pub(crate) alloc: Global,
+    pub(crate) decls: Decls,
+    pub(crate) shards: Vec<Shard>,
     // The batch that each shard is out with, empty where it is home.
     batches: Vec<Batch>,
     // The shards that are out, in order of sending. It has room for all.
