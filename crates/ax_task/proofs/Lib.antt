@@ -15,3 +15,5 @@ pub mod Resting
 pub mod Contents
 pub mod Blocks
 pub mod Knowing
+pub mod Working
+pub mod Falling

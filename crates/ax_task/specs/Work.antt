@@ -2,6 +2,7 @@
 use Rattle.std.specs.Prelude.{ℕ, ◌+◌, ◌*◌, ◌-◌, List, [], ◌∷◌, length, Option, Some, None}
 use Rattle.std.specs.BTreeSet.{insert_key}
 use Rattle.ax_keys.specs.Keys.{key_cmp}
+use Rattle.ax_text.specs.Programs.{program_width}
 use Rattle.ax_machine.specs.Entries.{Key}
 use Rattle.ax_machine.specs.Firings.{most_firings}
 use Rattle.ax_lang.specs.declared.program.Program.{Program}
@@ -75,6 +76,10 @@ work_in a content = total (rising (busy_keys a.accounts)) (λ k. control_work (s
 abbrev pub on_hand : Controller → ℕ
 on_hand a = total_of length a.buffer.queues + length a.mails.mails
 
--- what falls with each thing that the task does and that takes nothing of the input, where so much may be on hand
-abbrev pub left_to_do : ℕ → Controller → Content → ℕ
-left_to_do most a content = (most + 1) * work_in a content + on_hand a
+-- so much is on hand at most
+abbrev pub most_on_hand : Controller → ℕ
+most_on_hand a = a.settings.in_flight * (program_width (shown_program a.program) + 1)
+
+-- what falls with each thing that the task does and that takes nothing of the input
+abbrev pub left_to_do : Controller → Content → ℕ
+left_to_do a content = work_in a content * (most_on_hand a + 1) + on_hand a
