@@ -1,5 +1,5 @@
 -- A batch goes out, and comes back served.
-use Rattle.std.proofs.Common.{◌≡◌, ◌≢◌, ◌⊎◌, ◌<◌, ℕ, zero, suc, List, [], ◌∷◌, ◌++◌, length, get_or, set, Bool, true, false, cond, nat_eq, refl, sym, ap, ap₂, ◌∙◌, subst, eqb-true, arith, append-nil, inl, inr}
+use Rattle.std.proofs.Common.{◌≡◌, ◌≢◌, ◌⊎◌, ◌<◌, ℕ, zero, suc, ◌+◌, List, [], ◌∷◌, ◌++◌, length, get_or, set, Bool, true, false, cond, nat_eq, refl, sym, ap, ap₂, ◌∙◌, subst, eqb-true, arith, append-nil, inl, inr}
 use Rattle.std.proofs.lemmas.Bool.{cond-true, cond-false, eq-eqb}
 use Rattle.std.specs.Str.{bytes_eq}
 use Rattle.std.specs.List.{Contains, AllByRecursion}
@@ -17,7 +17,7 @@ use Rattle.ax_buffer.proofs.ListLemmas.{at_set}
 use Rattle.ax_context.specs.Slots.{at}
 use Rattle.ax_execution.specs.Contexts.{Part}
 use Rattle.ax_execution.specs.KeyControls.{control_of}
-use Rattle.ax_execution.specs.Machine.{Machine, Happening, Rules, after_all, taken}
+use Rattle.ax_execution.specs.Machine.{Machine, Happening, after_all, taken, work}
 use Rattle.ax_execution.specs.Allowed.{IsRun}
 use Rattle.ax_execution.specs.MachineControls.{MachineControl, control_of_machine}
 use Rattle.ax_execution.specs.ControlsAllowed.{Answered, IsRunOn, after_all_on, with_answers}
@@ -32,6 +32,8 @@ use Rattle.ax_core.specs.Events.{SameRules, OwnerAsks, Asks, AsksAll, names_in, 
 use Rattle.ax_core.proofs.Sends.{accepted}
 use Rattle.ax_task.specs.Serving.{Content, replies_to, content_with, content_after}
 use Rattle.ax_task.specs.Refined.{Reaches, Refines}
+use Rattle.ax_task.specs.Work.{work_in, left_to_do}
+use Rattle.ax_task.proofs.Falling.{work_now, falls_served, less_left}
 use Rattle.ax_task.proofs.KeptAsks.{asks_waits}
 use Rattle.ax_task.proofs.Served.{serve_events, none_taken, Holds, IsOf, IsServedBy, serve_batch, serves_write_nothing, others_stay}
 use Rattle.ax_task.proofs.Refining.{reached_by, reaches_on, key_stays}
@@ -179,3 +181,14 @@ module _ (s : Settings) (p : Program) (a b : Controller) (content : Content) (ou
           (λ y. absurd (none_in i (subst (λ (is : List Item). Contains is i) (out_here out out' shard [] now t y) h)))
           (λ y. still t i y (x.asks t i (subst (λ (is : List Item). Contains is i) (out_there out out' shard [] now t y) h)));
     }
+
+    -- and less is left to do
+    pub back_falls : 0 < length (out shard) → left_to_do b content' < left_to_do a content
+    unfolding m
+    back_falls some = less_left a b content content' (control_of_machine m) same stands
+        (let now : work_in b content' ≡ work (shown_program p) (after_all s.groups (shown_program p) (serve_events (out shard)) x.machine) =
+            work_now s p b content' (after_all s.groups (shown_program p) (serve_events (out shard)) x.machine) (same.program ∙ x.program) stands (λ k. by.holds k ∙ sym (behind k)) in
+        let was : work_in a content ≡ work (shown_program p) x.machine = work_now s p a content x.machine x.program x.stands x.reaches.states in
+        let served : work (shown_program p) (after_all s.groups (shown_program p) (serve_events (out shard)) x.machine) + length (out shard) ≡ work (shown_program p) x.machine =
+            falls_served s p content read written x.machine x.reaches (out shard) run in
+        omega arith)

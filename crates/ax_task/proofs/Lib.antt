@@ -11,3 +11,9 @@ pub mod Served
 pub mod Refining
 pub mod Things
 pub mod Batches
+pub mod Resting
+pub mod Contents
+pub mod Blocks
+pub mod Knowing
+pub mod Working
+pub mod Falling

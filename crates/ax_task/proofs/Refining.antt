@@ -74,7 +74,7 @@ no_answer (Serve k slot) m h = absurd (cc h.1)
 no_answer (Deliver k slot) m h = refl
 no_answer Send m h = refl
 
-no_serve : (e : Happening) → IsAnswered e None → (k : Key) (slot : ℕ) → e ≡ Serve k slot → ⊥
+pub no_serve : (e : Happening) → IsAnswered e None → (k : Key) (slot : ℕ) → e ≡ Serve k slot → ⊥
 no_serve e h k slot x = let y : IsAnswered (Serve k slot) None = subst (λ (d : Happening). IsAnswered d None) x h in absurd (cc y.1)
 
 -- the control behind an event that serves nothing

@@ -7,3 +7,5 @@ pub mod Laws
 pub mod Serving
 pub mod Shards
 pub mod Refined
+pub mod Known
+pub mod Work
