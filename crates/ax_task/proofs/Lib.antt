@@ -17,3 +17,8 @@ pub mod Blocks
 pub mod Knowing
 pub mod Working
 pub mod Falling
+pub mod Written
+pub mod EngineLemmas
+pub mod BatchLemmas
+pub mod SoundLemmas
+pub mod TaskLemmas

@@ -1,19 +1,23 @@
 -- The controller with its shards: what it has read and written, and what each thing that it does adds.
-use Rattle.std.specs.Prelude.{◌≡◌, ℕ, ◌<◌, List, [], ◌∷◌, ◌++◌, Option}
+use Rattle.std.specs.Prelude.{◌≡◌, ℕ, ◌<◌, ℤ, Bool, List, [], ◌∷◌, ◌++◌, ◌⊎◌, Option}
 use Rattle.std.specs.Io.KnownBytes.{Appends}
 use Rattle.ax_base.specs.Outside.{AppendsSome}
-use Rattle.ax_machine.specs.Entries.{Entry, text_of}
-use Rattle.ax_machine.specs.Events.{Event}
+use Rattle.ax_machine.specs.Entries.{Key, Entry, Watermark, marker_text, text_of}
+use Rattle.ax_machine.specs.Blocks.{Part, part_lines, lines_among, block_text}
+use Rattle.ax_machine.specs.Events.{Event, Row, Mark, Barrier}
 use Rattle.ax_machine.specs.Lawful.{LawfulSoFarFor}
 use Rattle.ax_lang.specs.declared.program.Program.{Program}
 use Rattle.ax_lang.specs.Shown.{shown_program, shown_kinds}
-use Rattle.ax_context.specs.Slots.{live_count}
+use Rattle.ax_time.specs.declared.epoch.Marker.{Marker}
+use Rattle.ax_time.specs.declared.epoch.Marker.TheVariants as marker
+use Rattle.ax_time.specs.Timers.{times_of}
 use Rattle.ax_execution.specs.MachineControls.{MachineControl}
 use Rattle.ax_execution.specs.ControlsAllowed.{FirstIsFinishedOn}
 use Rattle.ax_core.specs.declared.settings.Settings.{Settings}
 use Rattle.ax_core.specs.declared.controller.Controller.{Controller}
-use Rattle.ax_core.specs.May.{may_fire, has_mail}
+use Rattle.ax_core.specs.May.{may_admit, may_close}
 use Rattle.ax_core.specs.Sound.{StandsFor, IsSound}
+use Rattle.ax_core.specs.Events.{MayFireOn}
 use Rattle.ax_task.specs.Shards.{shard_count, held, out}
 use Rattle.ax_task.specs.Refined.{content_over, Refines}
 use Rattle.ax_task.specs.declared.engine.Engine.{Engine}
@@ -62,8 +66,39 @@ pub record WroteSome (s : Settings) (p : Program) (read : List Event) (written :
 abbrev pub WritesSome : Engine → Option (List ℕ) → Option (List ℕ) → Type 0
 WritesSome old h h' = (s : Settings) (p : Program) (read : List Event) (written : List Entry) → Stands s p old read written → WroteSome s p read written h h'
 
--- no key may fire, no mail waits, and no marker is to be sent
+-- no key may fire, and no marker is to be sent
 pub record IsQuiet (a : Controller) : Type 0 where
-  pub fires : may_fire a ≡ false
-  pub mails : has_mail a ≡ false
+  pub fires : (m : MachineControl) → StandsFor a m → MayFireOn a m → ⊥
   pub sends : (m : MachineControl) → StandsFor a m → FirstIsFinishedOn m.unsent m → ⊥
+
+-- the block of a barrier, where each key has the lines of what the shards hold and of its timers
+pub record IsBlockOf (e : Engine) (id : ℤ) (bytes : List ℕ) : Type 0 where
+  pub parts : List Part
+  pub lines : (k : Key) → lines_among (shown_program e.core.program).states k parts
+      ≡ part_lines (shown_program e.core.program).states (record { key = k; state = record { cells = content_over e.settings (held e.shards) k; times = times_of e.core.timers k } })
+  pub text : bytes ≡ block_text e.settings.groups (shown_program e.core.program).states id e.core.wm parts
+
+-- what is written as a marker
+abbrev pub IsMarkerText : Engine → Marker → List ℕ → Type 0
+IsMarkerText e (marker.Mark time) text = text ≡ marker_text (Watermark time)
+IsMarkerText e (marker.Barrier id) text = IsBlockOf e id text
+
+-- a marker was written; or nothing, or some of it
+pub record WroteMarker (e : Engine) (k : Marker) (h h' : Option (List ℕ)) : Type 0 where
+  pub text : List ℕ
+  pub is : IsMarkerText e k text
+  pub grown : Appends h h' text
+
+pub record WrotePart (e : Engine) (k : Marker) (h h' : Option (List ℕ)) : Type 0 where
+  pub text : List ℕ
+  pub is : IsMarkerText e k text
+  pub part : AppendsSome h h' text
+
+abbrev pub WritesPart : Engine → Marker → Option (List ℕ) → Option (List ℕ) → Type 0
+WritesPart e k h h' = (h' ≡ h) ⊎ WrotePart e k h h'
+
+-- an event that can be taken: a row may come in, and an epoch may be closed
+abbrev pub may_take : Controller → Event → Bool
+may_take a (Row key time values) = may_admit a
+may_take a (Mark time) = may_close a
+may_take a (Barrier id) = may_close a

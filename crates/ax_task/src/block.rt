@@ -1,4 +1,6 @@
 //! Barriers: what every key has is written as a block.
+ghost use Rattle.std.specs.Prelude.{IfOk};
+ghost use Rattle.ax_task.specs.Engines.{IsReady, IsBlockOf};
 
 use crate::engine::Engine;
 use crate::shards::Shards;
@@ -57,7 +59,10 @@ impl Engine {
     }
 
     // The block of a barrier.
-    pub(crate) fn block(&self, id: i64) -> Result<Bytes, NoMemory> {
+    pub(crate) fn block(&self, id: i64) -> Result<Bytes, NoMemory>
+        requires ready { IsReady self.now }
+        ensures { IfOk result (λ bytes. IsBlockOf self.now id bytes) }
+    {
         let keys = keys_of(self.alloc, &self.shards, self.core.timers())?;
         let snapshot = Snapshot {
             id,

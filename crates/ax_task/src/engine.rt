@@ -1,15 +1,14 @@
 //! The controller with its shards: what there is to do between two events.
-ghost use Rattle.std.specs.Prelude.{◌≡◌, ◌<◌, ◌≤◌, [], true, false, length, IfOk, IfSome, OnOk, OnErr};
+ghost use Rattle.std.specs.Prelude.{◌≡◌, ◌<◌, [], true, false, IfOk, OnOk, OnErr};
 ghost use Rattle.std.specs.Io.KnownBytes.{append_known};
 ghost use Rattle.ax_base.specs.Outside.{OwnCounts};
-ghost use Rattle.ax_context.specs.Slots.{live_count};
-ghost use Rattle.ax_buffer.specs.Buffer.{queue_of};
+ghost use Rattle.ax_machine.specs.Events.{Mark};
 ghost use Rattle.ax_input.specs.Shown.{shown_event};
-ghost use Rattle.ax_lang.specs.Shown.{shown_kinds};
-ghost use Rattle.ax_core.specs.May.{may_fire, has_mail};
-ghost use Rattle.ax_core.specs.Sound.{InRange};
-ghost use Rattle.ax_task.specs.Shards.{out};
-ghost use Rattle.ax_task.specs.Engines.{Stands, IsReady, MovesOn, Takes, Writes, WritesSome, IsQuiet, may_take, lies_ready};
+ghost use Rattle.ax_execution.specs.MachineControls.{MachineControl, in_flight_on};
+ghost use Rattle.ax_execution.specs.ControlsAllowed.{FirstIsFinishedOn};
+ghost use Rattle.ax_core.specs.May.{may_fire, may_close, has_mail};
+ghost use Rattle.ax_core.specs.Sound.{InRange, StandsFor};
+ghost use Rattle.ax_task.specs.Engines.{Stands, IsReady, MovesOn, Takes, Writes, WritesSome, IsQuiet, WroteMarker, WritesPart, may_take};
 
 use crate::config::Config;
 use crate::line::{write_lines, write_mark};
@@ -63,7 +62,7 @@ impl Engine {
         })
     }
 
-    /// The key that has been idle longest fires. Condition: one may fire.
+    // The key that has been idle longest fires. Condition: one may fire.
     fn fire(&mut self) -> Result<(), NoMemory>
         requires ready { IsReady self.old }
         requires may { may_fire self.old.core ≡ true }
@@ -73,11 +72,12 @@ impl Engine {
         Ok(())
     }
 
-    // Runs the first mail, and writes the lines of its handler. Condition: one waits.
+    // Runs the first mail, and writes the lines of its handler. Condition: one waits. After an error the sink took a prefix of
+    // what may be written.
     fn run_mail<K: Sink>(&mut self, out: &mut K) -> Result<(), SinkFault>
         requires ready { IsReady self.old }
         requires mail { has_mail self.old.core ≡ true }
-        ensures lines { OnOk result (Writes self.old self.new (K.holds out.old) (K.holds out.new)) }
+        ensures writes { OnOk result (Writes self.old self.new (K.holds out.old) (K.holds out.new)) }
         ensures part { OnErr result (WritesSome self.old (K.holds out.old) (K.holds out.new)) }
         ensures counts { OwnCounts (K.counts out.old) (K.counts out.new) result }
         ensures base { K.base out.new ≡ K.base out.old }
@@ -93,35 +93,91 @@ impl Engine {
         )
     }
 
-    // Writes a marker that was taken as the next.
-    fn write_marker<K: Sink>(&mut self, marker: Marker, out: &mut K) -> Result<(), SinkFault> {
+    // Writes a marker that was taken as the next. After an error the sink took a prefix of it.
+    fn write_marker<K: Sink>(&mut self, marker: Marker, out: &mut K) -> Result<(), SinkFault>
+        requires ready { IsReady self.old }
+        ensures core { self.new.core ≡ self.old.core }
+        ensures settings { self.new.settings ≡ self.old.settings }
+        ensures batch { self.new.batch ≡ self.old.batch }
+        ensures shards { self.new.shards ≡ self.old.shards }
+        ensures wrote { OnOk result (WroteMarker self.old marker (K.holds out.old) (K.holds out.new)) }
+        ensures part { OnErr result (WritesPart self.old marker (K.holds out.old) (K.holds out.new)) }
+        ensures counts { OwnCounts (K.counts out.old) (K.counts out.new) result }
+        ensures base { K.base out.new ≡ K.base out.old }
+    {
         match marker {
             Marker::Mark { time } => write_mark(&mut self.text, &time, out),
-            Marker::Barrier { id } => match self.block(id) {
-                Ok(bytes) => write_all(out, bytes.as_slice()),
-                Err(NoMemory) => Err(SinkFault::NoMemory),
-            },
+            Marker::Barrier { id } => self.write_block(id, out),
         }
     }
 
-    // Sends the next marker, behind which all that was gathered is written. Whether there was one.
+    // Writes the block of a barrier. After an error the sink took a prefix of it.
+    fn write_block<K: Sink>(&self, id: i64, out: &mut K) -> Result<(), SinkFault>
+        requires ready { IsReady self.now }
+        ensures wrote { OnOk result (WroteMarker self.now (Marker.Barrier id) (K.holds out.old) (K.holds out.new)) }
+        ensures part { OnErr result (WritesPart self.now (Marker.Barrier id) (K.holds out.old) (K.holds out.new)) }
+        ensures counts { OwnCounts (K.counts out.old) (K.counts out.new) result }
+        ensures base { K.base out.new ≡ K.base out.old }
+    {
+        let Ok(bytes) = self.block(id) else {
+            return Err(SinkFault::NoMemory);
+        };
+        write_all(out, bytes.as_slice())
+    }
+
+    // Writes a marker that was taken as the next, with all that was gathered before it.
+    fn write_through<K: Sink, B: Begun>(
+        &mut self,
+        marker: Marker,
+        out: &mut Gather<'_, K, B>,
+    ) -> Result<(), SinkFault>
+        requires ready { IsReady self.old }
+        ensures core { self.new.core ≡ self.old.core }
+        ensures settings { self.new.settings ≡ self.old.settings }
+        ensures batch { self.new.batch ≡ self.old.batch }
+        ensures shards { self.new.shards ≡ self.old.shards }
+        ensures wrote { OnOk result (WroteMarker self.old marker (append_known (K.holds out.old.inner.now) out.old.room.now) (append_known (K.holds out.new.inner.now) out.new.room.now)) }
+        ensures part { OnErr result (WritesPart self.old marker (append_known (K.holds out.old.inner.now) out.old.room.now) (append_known (K.holds out.new.inner.now) out.new.room.now)) }
+        ensures counts { OwnCounts (K.counts out.old.inner.now) (K.counts out.new.inner.now) result }
+        ensures same { out.new.inner.ghost_name ≡ out.old.inner.ghost_name }
+    {
+        self.write_marker(marker, out)?;
+        out.flush()
+    }
+
+    // Sends the next marker, and writes all that was gathered. Whether there was one.
     fn send_marker<K: Sink, B: Begun>(
         &mut self,
         out: &mut Gather<'_, K, B>,
-    ) -> Result<bool, SinkFault> {
+    ) -> Result<bool, SinkFault>
+        requires ready { IsReady self.old }
+        ensures writes { OnOk result (Writes self.old self.new (append_known (K.holds out.old.inner.now) out.old.room.now) (append_known (K.holds out.new.inner.now) out.new.room.now)) }
+        ensures none { IfOk result (λ sent. sent ≡ false → (m : MachineControl) → StandsFor self.new.core m → FirstIsFinishedOn m.unsent m → ⊥) }
+        ensures core { IfOk result (λ sent. sent ≡ false → self.new.core ≡ self.old.core) }
+        ensures part { OnErr result (WritesSome self.old (append_known (K.holds out.old.inner.now) out.old.room.now) (append_known (K.holds out.new.inner.now) out.new.room.now)) }
+        ensures counts { OwnCounts (K.counts out.old.inner.now) (K.counts out.new.inner.now) result }
+        ensures same { out.new.inner.ghost_name ≡ out.old.inner.ghost_name }
+    {
         let Some(marker) = self.core.next_marker() else {
             return Ok(false);
         };
-        self.write_marker(marker, out)?;
-        out.flush()?;
+        self.write_through(marker, out)?;
         Ok(true)
     }
 
-    /// Lets a key fire, runs a mail or sends a marker. Whether there was something to do.
+    /// Lets a key fire, runs a mail or sends a marker, and writes what there is to write. Whether there was something to do.
+    /// After an error the sink took a prefix of what may be written.
     pub fn work<K: Sink, B: Begun>(
         &mut self,
         out: &mut Gather<'_, K, B>,
-    ) -> Result<bool, SinkFault> {
+    ) -> Result<bool, SinkFault>
+        requires ready { IsReady self.old }
+        ensures writes { OnOk result (Writes self.old self.new (append_known (K.holds out.old.inner.now) out.old.room.now) (append_known (K.holds out.new.inner.now) out.new.room.now)) }
+        ensures quiet { IfOk result (λ done. done ≡ false → IsQuiet self.new.core) }
+        ensures part { OnErr result (WritesSome self.old (append_known (K.holds out.old.inner.now) out.old.room.now) (append_known (K.holds out.new.inner.now) out.new.room.now)) }
+        ensures counts { OwnCounts (K.counts out.old.inner.now) (K.counts out.new.inner.now) result }
+        ensures same { out.new.inner.ghost_name ≡ out.old.inner.ghost_name }
+    {
         if self.core.may_fire() {
             let Ok(()) = self.fire() else {
                 return Err(SinkFault::NoMemory);
@@ -136,7 +192,9 @@ impl Engine {
     }
 
     /// Whether an event can be taken.
-    pub fn may_take(&self, event: &Event) -> bool {
+    pub fn may_take(&self, event: &Event) -> bool
+        ensures { result ≡ may_take self.now.core (shown_event event.now) }
+    {
         match event {
             Event::Row { .. } => self.core.may_admit(),
             Event::Mark { .. } | Event::Barrier { .. } => self.core.may_close(),
@@ -145,7 +203,11 @@ impl Engine {
 
     /// Takes an event: a row comes in, and a watermark that is greater than the last or a barrier ends the epoch. Any other
     /// watermark is left out. Condition: it can be taken.
-    pub fn take(&mut self, event: Event) -> Result<(), NoMemory> {
+    pub fn take(&mut self, event: Event) -> Result<(), NoMemory>
+        requires ready { IsReady self.old }
+        requires may { may_take self.old.core (shown_event event) ≡ true }
+        ensures { OnOk result (Takes self.old self.new (shown_event event)) }
+    {
         match event {
             Event::Row { key, time, values } => {
                 self.core.admit(key, time, values)?;
@@ -156,8 +218,12 @@ impl Engine {
         }
     }
 
-    // Takes a watermark.
-    fn take_watermark(&mut self, time: i64) -> Result<(), NoMemory> {
+    // Takes a watermark. Condition: an epoch may be closed.
+    fn take_watermark(&mut self, time: i64) -> Result<(), NoMemory>
+        requires ready { IsReady self.old }
+        requires may { may_close self.old.core ≡ true }
+        ensures { OnOk result (Takes self.old self.new (Mark time)) }
+    {
         if self.core.wm() < time {
             self.core.close(Marker::Mark { time })
         } else {
@@ -165,48 +231,10 @@ impl Engine {
         }
     }
 
-    // The first shard that is home, and for which so many requests wait.
-    fn home_with(&self, least: u32) -> Option<u16> {
-        for shard in 0..self.settings.shards {
-            if self.core.active_len(shard) >= least && self.shards.is_home(shard) {
-                return Some(shard);
-            }
-        }
-        None
-    }
-
-    // Sends a batch to a shard that is home. Condition: requests wait for it.
-    fn send(&mut self, shard: u16) -> Result<(), NoMemory> {
-        let batch = self.core.batch_for(shard, self.batch)?;
-        self.shards.send(shard, batch);
-        Ok(())
-    }
-
-    // Takes the replies to a batch. Whether one was out.
-    fn poll(&mut self) -> Result<bool, NoMemory> {
-        let Some(back) = self.shards.poll() else {
-            return Ok(false);
-        };
-        self.core.deliver(back.replies?);
-        Ok(true)
-    }
-
-    /// Sends a batch to a shard that is home, a full one where there is one; and where there is none, a batch that is out is
-    /// served. Whether there was something to do.
-    pub fn exchange(&mut self) -> Result<bool, NoMemory> {
-        if let Some(shard) = self.home_with(self.batch) {
-            self.send(shard)?;
-            return Ok(true);
-        }
-        if let Some(shard) = self.home_with(1) {
-            self.send(shard)?;
-            return Ok(true);
-        }
-        self.poll()
-    }
-
     /// Whether nothing is in flight.
-    pub fn is_done(&self) -> bool {
+    pub fn is_done(&self) -> bool
+        ensures { result ≡ true → (m : MachineControl) → StandsFor self.now.core m → in_flight_on m ≡ 0 }
+    {
         self.core.in_flight() == 0
     }
 }

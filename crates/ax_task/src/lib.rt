@@ -4,9 +4,10 @@
 //! own parts.
 #![tactic(auto)]
 
+mod batches;
 mod block;
+mod cells;
 pub mod config;
-mod contents;
 mod end;
 mod engine;
 pub mod laws;

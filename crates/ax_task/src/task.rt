@@ -1,18 +1,17 @@
 //! A whole run: the program section, then the events in a plain loop.
-ghost use Rattle.std.specs.Prelude.{◌≡◌, ◌≤◌, ◌+◌, true, false, OnOk, OnErr, List};
-ghost use Rattle.std.specs.Io.KnownBytes.{Appends, append_known};
-ghost use Rattle.ax_base.specs.Outside.{Told, AppendsSome, OwnCounts};
+ghost use Rattle.std.specs.Prelude.{◌≡◌, ◌<◌, ◌+◌, true, false, IfOk, Option, List, ℕ};
+ghost use Rattle.std.specs.Io.KnownBytes.{append_known};
+ghost use Rattle.ax_base.specs.Outside.{Counts, Told};
 ghost use Rattle.ax_base.specs.Given.{ahead};
-ghost use Rattle.ax_machine.specs.Entries.{text_of};
 ghost use Rattle.ax_machine.specs.Events as shown;
-ghost use Rattle.ax_machine.specs.Sync.{plain_step, plain_start, silent};
-ghost use Rattle.ax_input.specs.Shown.{shown_event};
-ghost use Rattle.ax_lang.specs.Shown.{shown_program, shown_kinds};
-ghost use Rattle.ax_plain.specs.Plain.{shown_plain, ThreadFits};
+ghost use Rattle.ax_lang.specs.Shown.{shown_program};
+ghost use Rattle.ax_core.specs.Sound.{InRange};
 ghost use Rattle.ax_task.specs.Parse.{parse, stream_of, first_last};
-ghost use Rattle.ax_task.specs.Reads.{sink_end, end_in_section, end_in_stream, is_stopped};
+ghost use Rattle.ax_task.specs.Reads.{sink_end, end_in_section, is_stopped};
 ghost use Rattle.ax_task.specs.Clause.{WritesLawful, StreamEnds, RunEnds, Stops, EndCounts};
-ghost use Rattle.ax_task.specs.Passes.{events_at, feed_of, Took, Wrote, gathered};
+ghost use Rattle.ax_task.specs.Passes.{events_at, feed_of, Took, Wrote};
+ghost use Rattle.ax_task.specs.Engines.{IsReady, IsQuiet};
+ghost use Rattle.ax_task.specs.Tasks.{Outer, MayRead, Steps, TakesHeld, HasEnded};
 
 use crate::config::Config;
 use crate::end::End;
@@ -74,14 +73,12 @@ struct Task {
 }
 
 impl Task {
-    // Takes the next event, where there is one and it can be taken. Whether it was.
-    fn take_next<S: Source>(&mut self, lines: &mut Lines, input: &mut S) -> Result<bool, End> {
-        self.reading.look(self.alloc, lines, input)?;
-        self.take_held()
-    }
-
     // Takes the event that is held, where there is one and it can be taken. Whether it was.
-    fn take_held(&mut self) -> Result<bool, End> {
+    fn take_held(&mut self) -> Result<bool, NoMemory>
+        requires ready { IsReady self.old.engine }
+        ensures taken { IfOk result (λ taken. taken ≡ true → TakesHeld self.old.engine self.new.engine self.old.reading self.new.reading) }
+        ensures same { IfOk result (λ taken. taken ≡ false → (self.new.engine ≡ self.old.engine) × (self.new.reading ≡ self.old.reading)) }
+    {
         let Some(event) = self.reading.next.take() else {
             return Ok(false);
         };
@@ -89,42 +86,85 @@ impl Task {
             self.reading.next = Some(event);
             return Ok(false);
         }
-        match self.engine.take(event) {
-            Ok(()) => Ok(true),
-            Err(NoMemory) => Err(End::NoMemory),
-        }
+        self.engine.take(event)?;
+        Ok(true)
     }
 
-    // What ended the events, where nothing is left to do.
-    fn end(&self) -> Step {
-        match self.reading.found {
-            Some(end) if self.reading.next.is_none() && self.engine.is_done() => Step::End { end },
-            _ => Step::Went,
-        }
-    }
-
-    // Does one thing: what is left to do for the events that were taken comes first, then the next event, and then requests are
-    // sent and served. Ends where nothing is left to do.
-    fn step<S: Source, K: Sink, B: Begun>(
+    // What is left to do for the events that were taken, or nothing.
+    fn work_on<S: Source, K: Sink, B: Begun>(
         &mut self,
         lines: &mut Lines,
         input: &mut S,
         out: &mut Gather<'_, K, B>,
-    ) -> Step {
+    ) -> Step
+        requires ready { IsReady self.old.engine }
+        requires may { MayRead lines.old self.old.reading.found }
+        ensures steps { Steps self.old.engine self.new.engine self.old.reading self.new.reading lines.old lines.new
+            (record { left = S.left input.old; reads = S.faults input.old; holds = append_known (K.holds out.old.inner.now) out.old.room.now; writes = K.counts out.old.inner.now })
+            (record { left = S.left input.new; reads = S.faults input.new; holds = append_known (K.holds out.new.inner.now) out.new.room.now; writes = K.counts out.new.inner.now }) result }
+        ensures same { out.new.inner.ghost_name ≡ out.old.inner.ghost_name }
+    {
         match self.engine.work(out) {
-            Ok(true) => return Step::Went,
-            Ok(false) => {}
-            Err(fault) => return Step::End { end: end_of(fault) },
+            Ok(true) => Step::Went,
+            Ok(false) => self.read_on(lines, input),
+            Err(fault) => Step::End { end: end_of(fault) },
         }
-        match self.take_next(lines, input) {
-            Ok(true) => return Step::Went,
-            Ok(false) => {}
-            Err(end) => return Step::End { end },
+    }
+
+    // Looks for the next event and takes it where it can be taken; else requests are sent and served, and where none are, the run
+    // has ended. Condition: nothing is left to do for the events that were taken but to send and serve requests.
+    fn read_on<S: Source>(&mut self, lines: &mut Lines, input: &mut S) -> Step
+        requires ready { IsReady self.old.engine }
+        requires may { MayRead lines.old self.old.reading.found }
+        requires quiet { IsQuiet self.old.engine.core }
+        ensures { (holds : Option (List ℕ)) (writes : Counts) → Steps self.old.engine self.new.engine self.old.reading self.new.reading lines.old lines.new
+            (record { left = S.left input.old; reads = S.faults input.old; holds = holds; writes = writes })
+            (record { left = S.left input.new; reads = S.faults input.new; holds = holds; writes = writes }) result }
+    {
+        match self.reading.look(self.alloc, lines, input) {
+            Ok(()) => self.take_or_exchange(lines),
+            Err(NoMemory) => Step::End { end: End::NoMemory },
         }
+    }
+
+    // The same, where the next event was looked for.
+    fn take_or_exchange(&mut self, lines: &Lines) -> Step
+        requires ready { IsReady self.old.engine }
+        requires quiet { IsQuiet self.old.engine.core }
+        ensures { (now : Outer) → Steps self.old.engine self.new.engine self.old.reading self.new.reading lines.now lines.now now now result }
+    {
+        match self.take_held() {
+            Ok(true) => Step::Went,
+            Ok(false) => self.exchange(lines),
+            Err(NoMemory) => Step::End { end: End::NoMemory },
+        }
+    }
+
+    // The same, where the next event can't be taken or there is none.
+    fn exchange(&mut self, lines: &Lines) -> Step
+        requires ready { IsReady self.old.engine }
+        requires quiet { IsQuiet self.old.engine.core }
+        ensures { (now : Outer) → Steps self.old.engine self.new.engine self.old.reading self.new.reading lines.now lines.now now now result }
+    {
         match self.engine.exchange() {
             Ok(true) => Step::Went,
-            Ok(false) => self.end(),
+            Ok(false) => self.ended(lines),
             Err(NoMemory) => Step::End { end: End::NoMemory },
+        }
+    }
+
+    // What ended the events, where nothing is left to do.
+    fn ended(&self, lines: &Lines) -> Step
+        requires quiet { IsQuiet self.now.engine.core }
+        ensures { (now : Outer) → Steps self.now.engine self.now.engine self.now.reading self.now.reading lines.now lines.now now now result }
+    {
+        let Some(end) = self.reading.found else {
+            return Step::Went;
+        };
+        if self.reading.next.is_none() && self.engine.is_done() {
+            Step::End { end }
+        } else {
+            Step::Went
         }
     }
 }
@@ -139,6 +179,14 @@ fn take_events<S: Source, K: Sink, B: Begun>(
     input: &mut S,
     out: &mut Gather<'_, K, B>,
 ) -> End
+    requires sound { lines.old.failed ≡ false }
+    requires ranges { InRange config.now.settings }
+    requires contexts { 0 < config.now.settings.in_flight }
+    requires batch { 0 < config.now.batch }
+    ensures ended { HasEnded config.now.settings program
+        (record { means = events_at (shown_program program).fields first_last lines.old; held = lines.old.held; outer = record { left = S.left input.old; reads = S.faults input.old; holds = append_known (K.holds out.old.inner.now) out.old.room.now; writes = K.counts out.old.inner.now } })
+        (record { left = S.left input.new; reads = S.faults input.new; holds = append_known (K.holds out.new.inner.now) out.new.room.now; writes = K.counts out.new.inner.now }) result }
+    ensures same { out.new.inner.ghost_name ≡ out.old.inner.ghost_name }
 {
     let reading = Reading::new(alloc, program.fields());
     let Ok(engine) = Engine::new(alloc, config, program, order) else {
@@ -150,7 +198,7 @@ fn take_events<S: Source, K: Sink, B: Begun>(
         reading,
     };
     'step: for _ in 0..u64::MAX {
-        match task.step(lines, input, out) {
+        match task.work_on(lines, input, out) {
             Step::Went => {}
             Step::End { end } => return end,
         }
