@@ -32,10 +32,10 @@ use Rattle.ax_task.proofs.Passing.{Goes}
 use Rattle.ax_task.proofs.Progress.{holds}
 use Rattle.ax_task.proofs.Resting.{so_far, whole}
 
-told_both : {P Q : List ℕ → List ℕ → Type 0} (l0 l1 : Option (List ℕ)) → Told l0 l1 P → Told l0 l1 Q → Told l0 l1 (λ a b. P a b × Q a b)
-told_both None l1 p q = tt
-told_both (Some a) None p q = absurd p
-told_both (Some a) (Some b) p q = (p, q)
+told_both : (P Q : List ℕ → List ℕ → Type 0) (l0 l1 : Option (List ℕ)) → Told l0 l1 P → Told l0 l1 Q → Told l0 l1 (λ a b. P a b × Q a b)
+told_both P Q None l1 p q = tt
+told_both P Q (Some a) None p q = absurd p
+told_both P Q (Some a) (Some b) p q = (p, q)
 
 -- before the first event
 pub known_first : (F : List ℕ → Stream) (held : List ℕ) (l : Option (List ℕ)) → Told l l (λ a b. Knows F F [] (feed held a) (feed held b) None)
@@ -72,13 +72,13 @@ module _ (F G H : List ℕ → Stream) (held0 held1 held2 : List ℕ) (l0 l1 l2 
 
   -- the input has ended
   pub known_end : Told l1 l2 (λ a b. (G (held1 ++ a) ≡ ends Clean) × (b ≡ [])) → Told l1 l2 (λ a b. SomePassed G (feed held1 a) b) → Told l0 l2 (λ a b. Knows F H seen (feed held0 a) (feed held2 b) (Some end.Ok))
-  known_end n m = Told-trans l0 l1 l2 known (told_both l1 l2 n m) (λ a b c x y.
+  known_end n m = Told-trans l0 l1 l2 known (told_both (λ a b. (G (held1 ++ a) ≡ ends Clean) × (b ≡ [])) (λ a b. SomePassed G (feed held1 a) b) l1 l2 n m) (λ a b c x y.
       let all = all_seen a b Clean x y.0.0 in ((all.0, y.0.1, all.1), some_taken a b c x y.1))
 
   -- there is no next event
   pub known_fault : (f : ReadFault) → Told l1 l2 (λ a b. NextOf (G (held1 ++ a)) (H (held2 ++ b)) b (Err f)) → Told l1 l2 (λ a b. NextPasses G H (feed held1 a) (feed held2 b) (Err f)) → H [] ≡ ends Clean
       → Told l0 l2 (λ a b. Knows F H seen (feed held0 a) (feed held2 b) (Some (end_in_stream f)))
-  known_fault (read.Fault line kind) n m none = Told-trans l0 l1 l2 known (told_both l1 l2 n m) (λ a b c x y.
+  known_fault (read.Fault line kind) n m none = Told-trans l0 l1 l2 known (told_both (λ a b. G (held1 ++ a) ≡ ends (Fault line kind)) (λ a b. SomePassed G (feed held1 a) b) l1 l2 n m) (λ a b c x y.
       let all = all_seen a b (Fault line kind) x y.0 in ((all.0, all.1), some_taken a b c x y.1))
   known_fault read.NoMemory n m none = Told-trans l0 l1 l2 known m (λ a b c x y. (tt, some_taken a b c x y))
   known_fault read.Read n m none = Told-trans l0 l1 l2 known m (λ a b c x y. (
