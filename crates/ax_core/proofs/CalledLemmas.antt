@@ -1,4 +1,4 @@
--- The controller behind a callback: what stands for the control, and the flow of the requests where a handler has begun.
+-- The controller behind a callback: what is on the way, the flow of the requests, and the events of a key whose owner is known.
 use Rattle.std.proofs.Common.{◌≡◌, ℕ, ◌+◌, ◌<◌, nat_eq, ℤ, Bool, true, false, cond, ◌&&◌, List, [], ◌∷◌, map, length, length-append, Option, Some, None, refl, sym, ap, ap₂, subst, ◌∙◌, arith}
 use Rattle.ax_text.specs.declared.vocabulary.Answer.{Answer}
 use Rattle.ax_text.specs.Controls.{Ask' as Asked, replaced}
@@ -13,7 +13,7 @@ use Rattle.ax_future.specs.Talks.{asks_in}
 use Rattle.ax_machine.specs.Entries.{Key}
 use Rattle.ax_buffer.specs.Buffer.{total}
 use Rattle.ax_context.specs.declared.id.Id.{Id}
-use Rattle.ax_context.specs.Slots.{Slots, at, live_count}
+use Rattle.ax_context.specs.Slots.{Slots, at}
 use Rattle.ax_account.specs.declared.part.Waiting.{Waiting as Item}
 use Rattle.ax_account.specs.declared.part.Waiting.TheVariants as item
 use Rattle.ax_account.specs.declared.part.Next.{Next}
@@ -24,45 +24,19 @@ use Rattle.ax_mailbox.specs.declared.mail.Mail.TheVariants as mail
 use Rattle.ax_execution.specs.Allowed.{OfOwner, StageUnbegun, StageHas}
 use Rattle.ax_execution.specs.Contexts.{Running, Stage, Unbegun, Begun, Context, Waiting, Row, Mark, owners, may_fire}
 use Rattle.ax_execution.specs.KeyControls.{KeyControl}
-use Rattle.ax_execution.specs.ControlTurns.{is_idle_on, handed_on, called_back_on, start_on, start_owner_on, start_stage_on, deliver_on, deliver_owner_on, deliver_stage_on, give_answer_on}
+use Rattle.ax_execution.specs.ControlTurns.{handed_on, called_back_on, start_on, start_owner_on, start_stage_on, deliver_on, deliver_owner_on, deliver_stage_on, give_answer_on}
 use Rattle.ax_execution.specs.Turns.{begins, gives, effects_of, owner_starts, stage_starts, owner_gives, stage_gives, answer_gives}
-use Rattle.ax_execution.specs.MachineControls.{MachineControl, control_at, control_goes_on, in_flight_on}
-use Rattle.ax_execution.specs.Reached.{owed_in}
 use Rattle.ax_execution.proofs.SingleKeys.{keyed}
 use Rattle.ax_core.specs.declared.record.Record.{Record}
 use Rattle.ax_core.specs.declared.controller.Controller.{Controller}
 use Rattle.ax_core.specs.Contexts.{same_id, waits_at}
-use Rattle.ax_core.specs.Keys.{ItemsStand, KeyStands}
+use Rattle.ax_core.specs.Keys.{ItemsStand}
 use Rattle.ax_core.specs.Flow.{one_if, queued_as, named_as, answers_as, answered_as, in_queues, in_outs, waits_for, on_the_way}
-use Rattle.ax_core.specs.Epochs.{EpochsStand}
-use Rattle.ax_core.specs.Stands.{Stands}
-use Rattle.ax_core.specs.Callbacks.{fires, behind_marks, items_for, IsQueued, with_start, OthersIdle}
+use Rattle.ax_core.specs.Callbacks.{fires, behind_marks, items_for, IsQueued, with_start}
 use Rattle.ax_core.proofs.Counting.{queued_append}
 use Rattle.ax_core.proofs.Flows.{start_answered}
 use Rattle.ax_core.proofs.HandLemmas.{fires_as}
 use Rattle.ax_core.proofs.AskedLemmas.{queues_asked, asked_by_others, asked_by_own, times_in, differ_once, replaced_times, rise_differ}
-use Rattle.ax_core.proofs.EventLemmas.{idle_called}
-
-cancelled : (a b g x y : ℕ) → a + g ≡ b → x + g ≡ y → b ≡ y → a ≡ x
-cancelled a b g x y h k e = omega arith
-
-shifted : (a b n x y : ℕ) → a + 1 ≡ b + n → x + 1 ≡ y + n → b ≡ y → a ≡ x
-shifted a b n x y h k e = omega arith
-
--- the controller stands for a control in which one key goes on, where each of its parts does
-pub stands_behind : (old new : Controller) (m : MachineControl) (key : Key) (must : Option Key) (c : KeyControl) (gone more : ℕ) → Stands old m
-    → new.wm ≡ old.wm → ((q : Key) → KeyStands new q (control_at m.controls key c q)) → OthersIdle key old.accounts.idle new.accounts.idle → is_idle_on c ≡ false
-    → live_count new.contexts + gone ≡ live_count old.contexts → in_flight_on (control_goes_on key must c m) + gone ≡ in_flight_on m
-    → on_the_way new + 1 ≡ on_the_way old + more → owed_in (control_goes_on key must c m) + 1 ≡ owed_in m + more
-    → EpochsStand new.epochs new.barrier (control_goes_on key must c m) → Stands new (control_goes_on key must c m)
-stands_behind old new m key must c gone more h wm keys idle busy fewer flight way owed epochs = record {
-  wm = wm ∙ h.wm;
-  keys = keys;
-  idle = idle_called key old.accounts.idle new.accounts.idle c m.controls idle busy h.idle;
-  flight = cancelled (live_count new.contexts) (live_count old.contexts) gone (in_flight_on (control_goes_on key must c m)) (in_flight_on m) fewer flight h.flight;
-  way = shifted (on_the_way new) (on_the_way old) more (owed_in (control_goes_on key must c m)) (owed_in m) way owed h.way;
-  epochs = epochs;
-}
 
 -- ---- what is on the way
 
@@ -133,7 +107,8 @@ module _ (old new : Controller) (id : Id) (key : Key) (shard : ℕ) (asks : List
 abbrev pub AnswersNothing : Mail → Type 0
 AnswersNothing m = (id : Id) (slot : ℕ) → answers_as id slot m ≡ 0
 
-none_taken : (m : Mail) (ns : List Mail) (id : Id) (slot : ℕ) → AnswersNothing m → answered_as id slot ns ≡ answered_as id slot (m ∷ ns)
+-- so each answer is still there where it is taken
+pub none_taken : (m : Mail) (ns : List Mail) (id : Id) (slot : ℕ) → AnswersNothing m → answered_as id slot ns ≡ answered_as id slot (m ∷ ns)
 none_taken m ns id slot quiet = sym (ap (λ (n : ℕ). n + answered_as id slot ns) (quiet id slot) ∙ none_first (answered_as id slot ns))
 
 pub start_taken : (n : Next) (m : Mail) (ns : List Mail) (id : Id) (slot : ℕ) → AnswersNothing m → answered_as id slot (with_start n ns) ≡ answered_as id slot (m ∷ ns)
@@ -170,7 +145,7 @@ once_others old new id key shard asks n m ns quiet there queued outs taken poste
 
 -- the same where an answer was handed over
 
-post_answered : (n : Next) (ns : List Mail) (id : Id) (slot : ℕ) → answered_as id slot (with_start n ns) ≡ answered_as id slot ns
+pub post_answered : (n : Next) (ns : List Mail) (id : Id) (slot : ℕ) → answered_as id slot (with_start n ns) ≡ answered_as id slot ns
 post_answered next.Free ns id slot = refl
 post_answered (next.Row j) ns id slot = start_answered ns j id slot
 post_answered (next.Mark e w fired) ns id slot = refl

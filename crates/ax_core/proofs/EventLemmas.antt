@@ -14,7 +14,6 @@ use Rattle.ax_account.specs.declared.part.Waiting.{Waiting as Item}
 use Rattle.ax_account.specs.declared.part.Waiting.TheVariants as item
 use Rattle.ax_account.specs.Parts.{Part}
 use Rattle.ax_account.specs.Accounts.{Accounts, part_of, Changes}
-use Rattle.ax_account.specs.Queues.{has_key}
 use Rattle.ax_mailbox.specs.declared.mail.Mail.{Mail}
 use Rattle.ax_mailbox.specs.declared.mail.Mail.TheVariants as mail
 use Rattle.ax_time.specs.declared.timer.Timer.{Timer}
@@ -22,7 +21,6 @@ use Rattle.ax_time.specs.Timers.{times_of, PutsTimes}
 use Rattle.ax_execution.specs.Contexts.{Context, row_context, Waiting, Row, Mark}
 use Rattle.ax_execution.specs.Counts.{one_at, rows_numbered, owner_numbered}
 use Rattle.ax_execution.specs.KeyControls.{KeyControl}
-use Rattle.ax_execution.specs.ControlTurns.{is_idle_on}
 use Rattle.ax_execution.specs.MachineControls.{MachineControl, control_at, control_numbered, number_count_on}
 use Rattle.ax_execution.proofs.KeySums.{in_total}
 use Rattle.ax_execution.proofs.SingleKeys.{own_control, other_control}
@@ -30,7 +28,6 @@ use Rattle.ax_execution.proofs.Upto.{by_cases}
 use Rattle.ax_core.specs.declared.record.Record.{Record}
 use Rattle.ax_core.specs.Contexts.{answer_in, ContextStands}
 use Rattle.ax_core.specs.Keys.{ItemsStand, PartStands}
-use Rattle.ax_core.specs.Callbacks.{OthersIdle}
 use Rattle.ax_core.proofs.Frames.{KeyIn, key_in, Keeps, KeepAll, items_stay, part_stays, others_keep, started_answers}
 use Rattle.ax_core.proofs.TimerLemmas.{puts_at, puts_elsewhere}
 
@@ -103,10 +100,3 @@ module _ (p : Program) (ms ns : List Mail) (s t : Slots Record) (id : Id) (key :
 pub posted : (p : Program) (ms : List Mail) (s : Slots Record) (one : Id) (key : Key) (part : Part) (times : List ℤ) (c : KeyControl) → PartStands p ms s key part times c
     → PartStands p (ms ++ mail.Start one ∷ []) s key part times c
 posted p ms s one key part times c h = part_stays p ms (ms ++ mail.Start one ∷ []) s s key (λ id named. record { context = refl; answers = started_answers ms one id }) part times c h
-
--- the keys that must wait for a context to fire are listed, where the owner's key isn't one
-pub idle_called : (key : Key) (old new : List Key) (r : KeyControl) (controls : Key → KeyControl) → OthersIdle key old new → is_idle_on r ≡ false
-    → ((k : Key) → is_idle_on (controls k) ≡ true → has_key old k ≡ true) → (q : Key) → is_idle_on (control_at controls key r q) ≡ true → has_key new q ≡ true
-idle_called key old new r controls stay busy listed q idle = by_cases (bytes_eq key q)
-    (λ x. absurd (true_false (sym idle ∙ ap (λ (k : Key). is_idle_on (control_at controls key r k)) (sym (key_is key q x)) ∙ ap is_idle_on (own_control controls key r) ∙ busy)))
-    (λ x. stay q (λ same. true_false (sym (same_key key) ∙ ap (bytes_eq key) (sym same) ∙ x)) ∙ listed q (sym (ap is_idle_on (other_control controls key r q x)) ∙ idle))

@@ -2,6 +2,7 @@
 use Rattle.std.proofs.Common.{◌≡◌, ◌⊎◌, ℕ, zero, suc, ◌+◌, ◌≤◌, ◌<◌, Bool, true, false, Option, Some, None, IsSome, IsSomeAnd, List, [], ◌∷◌, ◌++◌, length, get_or, set, drop, refl, sym, ap, ◌∙◌, subst, inl, inr, Contains, length-append, length-set, arith}
 use Rattle.std.specs.List.{remove_range}
 use Rattle.std.proofs.Math.Seq.{drop-append-add, drop-append_seam, take-append_seam}
+use Rattle.std.proofs.lemmas.List.{set-get_or}
 use Rattle.std.proofs.lemmas.List.Elements.{Contains-append_left, Contains-append_right, Contains-append_cases}
 use Rattle.ax_buffer.specs.declared.items.Reply.{Reply}
 use Rattle.ax_buffer.specs.Buffer.{total}
@@ -16,8 +17,9 @@ use Rattle.ax_core.specs.Contexts.{waits_at}
 use Rattle.ax_core.specs.Flow.{shard_of, one_if, names_request, named_as, in_outs, out_of, waits_for, OutStands, IsFlow}
 use Rattle.ax_core.specs.Batches.{IsPlaceOf, Forgets}
 use Rattle.ax_core.specs.Events.{names_of, IsBatchOut}
-use Rattle.ax_core.proofs.Counting.{named_append, length_replies}
+use Rattle.ax_core.proofs.Counting.{inside_or, named_append, length_replies}
 use Rattle.ax_core.proofs.Owners.{names_itself}
+use Rattle.ax_core.proofs.Replaced.{contains_none}
 
 abbrev pub name_of : Reply → Name
 name_of r = record { id = r.id; slot = r.slot }
@@ -29,6 +31,15 @@ named_there n (x ∷ xs) zero lt e =
     let named : names_request n.id n.slot x.id x.slot ≡ true = subst (λ (m : Name). names_request n.id n.slot m.id m.slot ≡ true) (sym e) (names_itself n.id n.slot) in
     omega (arith, ap one_if named)
 named_there n (x ∷ xs) (suc k) lt e = omega (arith, named_there n xs k (omega arith) e)
+
+-- and in all that is out
+pub in_outs_there : (a : Controller) (shard : ℕ) (n : Name) → Contains (out_of a shard) n → 1 ≤ in_outs a n.id n.slot
+in_outs_there a shard n c =
+    let here : 1 ≤ named_as n.id n.slot (out_of a shard) = named_there n (out_of a shard) c.0 c.1 c.2 in
+    elim (inside_or shard a.outs.items) [
+      | inl x ↦ (let all : named_as n.id n.slot (out_of a shard) ≤ in_outs a n.id n.slot = total-at (named_as n.id n.slot) a.outs.items shard [] x in omega (arith, here, all))
+      | inr x ↦ absurd (contains_none n (subst (λ (ns : List Name). Contains ns n) x c))
+    ]
 
 at_front : (xs ys : List Name) (k : ℕ) (d : Name) → k < length xs → get_or (xs ++ ys) k d ≡ get_or xs k d
 at_front [] ys k d h = absurd (omega arith)
@@ -105,16 +116,18 @@ module _ (a b : Controller) (rs : List Reply) (shard : ℕ) (before behind : Lis
     | inr x ↦ subst (λ (ns : List Name). Contains ns n) (ap (λ (os : List (List Name)). get_or os t []) outs ∙ x.1) h
   ]
 
-  pub forgets : Forgets a b rs
-  forgets = record { same = same; shards = ap length outs ∙ length-set a.outs.items shard (before ++ behind); fewer = fewer; counts = counts; out = was_out }
+  pub forgets : ((s : ℕ) (first last : List Name) → out_of a s ≡ first ++ (names_of rs ++ last) → b.outs.items ≡ set a.outs.items s (first ++ last)) → Forgets a b rs
+  forgets all = record { same = same; shards = ap length outs ∙ length-set a.outs.items shard (before ++ behind); fewer = fewer; counts = counts; out = was_out; outs = all }
 
 pub forgets_none : (a : Controller) → Forgets a a []
-forgets_none a = record { same = refl; shards = refl; fewer = omega arith; counts = λ id slot. omega arith; out = λ t n h. h }
-
-inside_or : {X : Type 0} (s : ℕ) (xs : List (List X)) → (s < length xs) ⊎ (get_or xs s [] ≡ [])
-inside_or s [] = inr refl
-inside_or zero (x ∷ xs) = inl (omega arith)
-inside_or (suc s) (x ∷ xs) = elim (inside_or s xs) [ inl h ↦ inl (omega arith) | inr e ↦ inr e ]
+forgets_none a = record {
+  same = refl;
+  shards = refl;
+  fewer = omega arith;
+  counts = λ id slot. omega arith;
+  out = λ t n h. h;
+  outs = λ s before behind is. sym (ap (set a.outs.items s) (sym is) ∙ set-get_or a.outs.items s []);
+}
 
 at_most : (b : Bool) → one_if b ≤ 1
 at_most true = omega arith
@@ -165,9 +178,20 @@ module _ (a : Controller) (flow : IsFlow a) (rs : List Reply) (out : IsBatchOut 
         ∙ (ap (λ n. remove_range (out.before ++ (names_of rs ++ out.behind)) place (place + n)) (sym (length_replies rs))
         ∙ (ap (λ n. remove_range (out.before ++ (names_of rs ++ out.behind)) n (n + length (names_of rs))) at_place ∙ removed out.before (names_of rs) out.behind))
 
-    pub forgotten : (b : Controller) (s : ℕ) (ns : List Name) → b ≡ record a { outs = b.outs } → s ≡ out.shard → ns ≡ remove_range names place (place + length rs) → b.outs.items ≡ set a.outs.items s ns → Forgets a b rs
-    forgotten b s ns eq there n o = forgets a b rs out.shard out.before out.behind inside out.there eq
-        (o ∙ (ap (λ (t : ℕ). set a.outs.items t ns) there ∙ ap (set a.outs.items out.shard) (n ∙ left)))
+    left_out : (b : Controller) (s : ℕ) (ns : List Name) → s ≡ out.shard → ns ≡ remove_range names place (place + length rs) → b.outs.items ≡ set a.outs.items s ns
+        → b.outs.items ≡ set a.outs.items out.shard (out.before ++ out.behind)
+    left_out b s ns there n o = o ∙ (ap (λ (t : ℕ). set a.outs.items t ns) there ∙ ap (set a.outs.items out.shard) (n ∙ left))
+
+-- they are out no longer, in whatever way it is said where they were
+module _ (a : Controller) (flow : IsFlow a) (rs : List Reply) (out : IsBatchOut a rs) (x : Reply) (rest : List Reply) (e : rs ≡ x ∷ rest)
+    (place : ℕ) (found : IsPlaceOf (out_of a out.shard) (name_of x) place) where
+  pub forgotten : (b : Controller) (s : ℕ) (ns : List Name) → b ≡ record a { outs = b.outs } → ((o : IsBatchOut a rs) → s ≡ o.shard) → ns ≡ remove_range (out_of a out.shard) place (place + length rs)
+      → b.outs.items ≡ set a.outs.items s ns → Forgets a b rs
+  forgotten b s ns eq there n o = forgets a b rs out.shard out.before out.behind (inside a flow rs out x rest e) out.there eq (at out)
+      (λ t first last is. at (record { shard = t; before = first; behind = last; there = is }))
+    where
+      at : (other : IsBatchOut a rs) → b.outs.items ≡ set a.outs.items other.shard (other.before ++ other.behind)
+      at other = left_out a flow rs other x rest e (out_of a out.shard) place (ap (out_of a) (sym (there out) ∙ there other)) found b s ns (there other) n o
 
 pub cons_of : (xs rs : List Reply) (x : Reply) → xs ≡ rs → 0 < length xs → x ≡ get_or xs 0 x → rs ≡ x ∷ drop 1 rs
 cons_of [] rs x s h e = absurd (omega arith)

@@ -10,7 +10,7 @@ use Rattle.ax_context.specs.Slots.{Slots, at, Has, IsLive, IsPaid, with_payload}
 use Rattle.ax_core.specs.declared.record.Record.{Record}
 use Rattle.ax_core.specs.Callbacks.{Begins, WaitsAt, ResumedAt, HasBegun, HasResumed}
 
-if_ok : {T E : Type 0} {P Q : T → Type 0} (r : Result T E) → ((x : T) → P x → Q x) → IfOk r P → IfOk r Q
+pub if_ok : {T E : Type 0} {P Q : T → Type 0} (r : Result T E) → ((x : T) → P x → Q x) → IfOk r P → IfOk r Q
 if_ok (Ok x) f p = f x p
 if_ok (Err e) f p = tt
 

@@ -4,6 +4,7 @@ pub mod Flows
 pub mod Sends
 pub mod Sent
 pub mod Begins
+pub mod Conditions
 pub mod Counting
 pub mod Waits
 pub mod Owners
@@ -11,11 +12,17 @@ pub mod AskLemmas
 pub mod AskedLemmas
 pub mod BatchLemmas
 pub mod CallLemmas
+pub mod CallRooms
+pub mod Called
 pub mod CalledLemmas
+pub mod CalledRuns
+pub mod CalledStands
 pub mod Deliveries
+pub mod Ends
 pub mod EventLemmas
 pub mod Forgotten
 pub mod Frames
+pub mod Fronts
 pub mod GetLemmas
 pub mod GoLemmas
 pub mod HandLemmas
@@ -36,3 +43,11 @@ pub mod Enters
 pub mod Numbers
 pub mod Rows
 pub mod Taken
+pub mod KeysStay
+pub mod Replaced
+pub mod CalledFlow
+pub mod CallFlows
+pub mod MailRuns
+pub mod Orders
+pub mod CallOrder
+pub mod BatchFits

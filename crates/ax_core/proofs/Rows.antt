@@ -100,7 +100,7 @@ owner_as id i None [] x = x
 owner_as id i None (w ∷ is) x = refl
 owner_as id i (Some j) is x = refl
 
-free_same : (a : Controller) (key : Key) (o : Option Id) (is : List Item) (d : Option Context) (ws : List Waiting)
+pub free_same : (a : Controller) (key : Key) (o : Option Id) (is : List Item) (d : Option Context) (ws : List Waiting)
     → OwnerStands a.program a.mails.mails a.contexts key o d → ItemsStand a.program a.mails.mails a.contexts key is ws → (is_none o && is_empty is) ≡ is_free_with d ws
 free_same a key None [] None [] x y = refl
 free_same a key None [] None (w ∷ ws) x y = absurd y

@@ -1,6 +1,6 @@
 -- Batches that are out, and the mails that their replies become.
-use Rattle.std.specs.Prelude.{◌≡◌, ◌≢◌, ◌≤◌, ◌<◌, ℕ, ◌+◌, List, map, length}
-use Rattle.std.specs.List.{Contains, slice_index_or}
+use Rattle.std.specs.Prelude.{◌≡◌, ◌≢◌, ◌≤◌, ◌<◌, ℕ, ◌+◌, List, ◌++◌, map, length}
+use Rattle.std.specs.List.{Contains, slice_index_or, slice_set}
 use Rattle.ax_buffer.specs.declared.items.Reply.{Reply}
 use Rattle.ax_buffer.specs.Buffer.{total}
 use Rattle.ax_context.specs.declared.id.Id.{Id}
@@ -20,6 +20,10 @@ pub record IsPlaceOf (names : List Name) (name : Name) (place : ℕ) : Type 0 wh
 abbrev pub mails_in : List Reply → List Mail
 mails_in rs = map (λ r. mail.Reply r.id r.slot r.answer) rs
 
+-- the requests that these replies name are taken from those that are out; what was before them and behind them stays, in order
+abbrev pub OthersOut : Controller → Controller → List Reply → Type 0
+OthersOut old new rs = (shard : ℕ) (before behind : List Name) → out_of old shard ≡ before ++ (names_of rs ++ behind) → new.outs.items ≡ slice_set old.outs.items shard (before ++ behind)
+
 -- the requests that these replies name are out no longer, and nothing else changes
 pub record Forgets (old new : Controller) (rs : List Reply) : Type 0 where
   pub same : new ≡ record old { outs = new.outs }
@@ -27,3 +31,4 @@ pub record Forgets (old new : Controller) (rs : List Reply) : Type 0 where
   pub fewer : total length new.outs.items + length rs ≡ total length old.outs.items
   pub counts : (id : Id) (slot : ℕ) → in_outs new id slot + named_as id slot (names_of rs) ≡ in_outs old id slot
   pub out : (shard : ℕ) (n : Name) → Contains (out_of new shard) n → Contains (out_of old shard) n
+  pub outs : OthersOut old new rs

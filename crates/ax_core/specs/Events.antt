@@ -1,5 +1,6 @@
 -- The events that a call makes.
 use Rattle.std.specs.Prelude.{◌≡◌, ◌<◌, ℕ, ℤ, List, [], ◌∷◌, ◌++◌, map, true, Option, Some, None}
+use Rattle.std.specs.List.{Contains}
 use Rattle.ax_text.specs.Controls.{request_at}
 use Rattle.ax_lang.specs.Shown.{shown_program}
 use Rattle.ax_machine.specs.Entries.{Key, says}
@@ -145,6 +146,15 @@ pub record IsBatchOut (a : Controller) (rs : List Reply) : Type 0 where
 abbrev pub key_in : Option (Held Record) → Key
 key_in None = []
 key_in (Some h) = h.payload.facts.key
+
+-- each request that is out is of the key that it was of
+abbrev pub KeysStay : Controller → Controller → Type 0
+KeysStay old new = (shard : ℕ) (n : Name) → Contains (out_of old shard) n → key_in (at new.contexts n.id) ≡ key_in (at old.contexts n.id)
+
+-- each of these requests is of a context of its key
+abbrev pub OfKeys : Controller → List Item → Type 0
+OfKeys a [] = Unit {0}
+OfKeys a (i ∷ is) = (key_in (at a.contexts i.id) ≡ i.key) × OfKeys a is
 
 -- each reply serves what it names
 abbrev pub serves : Controller → List Reply → List Answered

@@ -8,7 +8,7 @@ use Rattle.ax_context.specs.Slots.{at, IsTaken, OthersStay, live_count}
 use Rattle.ax_account.specs.declared.part.Next.TheVariants as next
 use Rattle.ax_account.specs.Parts.{next_of, fired_by}
 use Rattle.ax_account.specs.Queues.{without}
-use Rattle.ax_account.specs.Accounts.{part_of, waiting_of, Changes}
+use Rattle.ax_account.specs.Accounts.{part_of, owner_of, waiting_of, Changes}
 use Rattle.ax_mailbox.specs.declared.mail.Mail.TheVariants as mail
 use Rattle.ax_time.specs.Timers.{PutsTimes, times_of}
 use Rattle.ax_core.specs.declared.record.Record.{Record}
@@ -19,12 +19,13 @@ use Rattle.ax_core.specs.declared.controller.Controller.{Controller}
 abbrev pub firing : Key → ℤ → ℤ → Record
 firing key time mark = record { facts = record { key = key; time = time; wm = mark; values = [] }; handler = handler.Timer; machine = None }
 
--- the mark in front of a key fires the key's least timer: a new context owns the key, its start mail is posted, and nothing else changes
+-- the mark in front of a key that nobody owns fires the key's least timer: a new context owns the key, its start mail is posted, and nothing else changes
 pub record FiresAt (old new : Controller) (key : Key) (f : Fired) : Type 0 where
   pub id : Id
   pub epoch : ℕ
   pub fired : ℕ
   pub named : f.key ≡ key
+  pub none : owner_of old.accounts key ≡ None
   pub front : next_of (waiting_of old.accounts key) ≡ next.Mark epoch f.mark fired
   pub least : least_time (times_of old.timers key) ≡ Some f.time
   pub times : PutsTimes old.timers new.timers key (later_times (times_of old.timers key))

@@ -1,4 +1,5 @@
 pub mod Callbacks
+pub mod Calls
 pub mod Contexts
 pub mod Keys
 pub mod Flow
@@ -12,3 +13,4 @@ pub mod Rooms
 pub mod Firings
 pub mod Closings
 pub mod Admissions
+pub mod Order

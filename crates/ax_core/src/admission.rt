@@ -5,9 +5,11 @@ ghost use Rattle.ax_account.specs.Accounts.{AreSound};
 ghost use Rattle.ax_time.specs.Epochs.{current_of, count_of, IsOpen};
 ghost use Rattle.ax_execution.specs.Machine.{Admit};
 ghost use Rattle.ax_execution.specs.MachineControls.{MachineControl};
+ghost use Rattle.ax_execution.specs.OwedChanges.{is_free_on};
 ghost use Rattle.ax_core.specs.May.{may_admit};
 ghost use Rattle.ax_core.specs.Sound.{StandsFor, IsSound};
-ghost use Rattle.ax_core.specs.Events.{SameRules, Makes, MayAdmitOn};
+ghost use Rattle.ax_core.specs.Events.{SameRules, KeysStay, Makes, MayAdmitOn};
+ghost use Rattle.ax_core.specs.Order.{Posts, begins_where};
 ghost use Rattle.ax_core.specs.Admissions.{row_record, start_mails, TakesIn};
 
 use crate::controller::Controller;
@@ -51,6 +53,8 @@ impl Controller {
         ensures sound { OnOk result (IsSound self.new) }
         ensures same { OnOk result (SameRules self.old self.new) }
         ensures outs { OnOk result (self.new.outs ≡ self.old.outs) }
+        ensures keys { OnOk result (KeysStay self.old self.new) }
+        ensures order { IfOk result (λ n. (m : MachineControl) → StandsFor self.old m → Posts self.old self.new (begins_where (is_free_on (m.controls key)) n)) }
         ensures event { IfOk result (λ n. (m : MachineControl) → StandsFor self.old m → Makes self.old self.new (Admit n key time values) m) }
     {
         sizes_law(&self.epochs);

@@ -1,12 +1,15 @@
 //! Requests go out in batches, and replies come back.
-ghost use Rattle.std.specs.Prelude.{◌≡◌, ◌+◌, ◌<◌, ◌≤◌, ◌++◌, length, take, slice_set, IfOk, OnOk};
-ghost use Rattle.std.specs.List.{remove_range};
+ghost use Rattle.std.specs.Prelude.{◌≡◌, ◌+◌, ◌<◌, ◌≤◌, ◌++◌, length, take, slice_set, true, IfOk, OnOk};
+ghost use Rattle.std.specs.List.{remove_range, All};
+ghost use Rattle.ax_text.specs.Suits.{fits_in};
+ghost use Rattle.ax_lang.specs.Shown.{shown_kinds};
 ghost use Rattle.ax_buffer.specs.Buffer.{queue_of};
 ghost use Rattle.ax_execution.specs.MachineControls.{MachineControl};
 ghost use Rattle.ax_core.specs.Flow.{out_of};
 ghost use Rattle.ax_core.specs.Sound.{StandsFor, IsSound};
-ghost use Rattle.ax_core.specs.Events.{SameRules, AsksAll, AreOut, IsBatchOut, ServesAll, names_in};
-ghost use Rattle.ax_core.specs.Batches.{IsPlaceOf, Forgets, mails_in};
+ghost use Rattle.ax_core.specs.Events.{SameRules, AsksAll, AreOut, IsBatchOut, ServesAll, names_in, KeysStay, OfKeys};
+ghost use Rattle.ax_core.specs.Order.{Posts, replies_in, SendsFirst};
+ghost use Rattle.ax_core.specs.Batches.{IsPlaceOf, Forgets, OthersOut, mails_in};
 
 use crate::controller::Controller;
 use crate::record::Name;
@@ -28,7 +31,7 @@ impl Controller {
     }
 
     /// Takes the first `max` requests of a shard's queue, or all where it has fewer, in order. They are out until their
-    /// replies are delivered.
+    /// replies are delivered. Each fits the states that the program declares.
     ///
     /// Conditions: the shard is below the settings' `shards`; `active_len(shard)` and `max` are above 0.
     pub fn batch_for(&mut self, shard: u16, max: u32) -> Result<Batch, NoMemory>
@@ -41,8 +44,12 @@ impl Controller {
         ensures batch { IfOk result (λ batch. batch ≡ take max (queue_of self.old.buffer shard)) }
         ensures stands { OnOk result ((m : MachineControl) → StandsFor self.old m → StandsFor self.new m) }
         ensures asks { IfOk result (λ batch. (m : MachineControl) → StandsFor self.old m → AsksAll self.old shard m batch) }
+        ensures fit { IfOk result (λ batch. All (λ i. fits_in (shown_kinds self.old.program) i.request ≡ true) batch) }
         ensures out { IfOk result (λ batch. AreOut self.new shard batch) }
         ensures outs { IfOk result (λ batch. self.new.outs.items ≡ slice_set self.old.outs.items shard (out_of self.old shard ++ names_in batch)) }
+        ensures keys_of { IfOk result (λ batch. OfKeys self.new batch) }
+        ensures keys { OnOk result (KeysStay self.old self.new) }
+        ensures order { IfOk result (λ batch. SendsFirst self.old self.new shard max batch) }
     {
         let batch = self.buffer.take_batch(self.alloc, shard, max)?;
         put_names(&mut self.outs[shard as usize], &batch)?;
@@ -59,6 +66,9 @@ impl Controller {
         ensures sound { IsSound self.new }
         ensures same { SameRules self.old self.new }
         ensures served { (m : MachineControl) → StandsFor self.old m → ServesAll self.old self.new r m }
+        ensures outs { OthersOut self.old self.new r }
+        ensures keys { KeysStay self.old self.new }
+        ensures order { Posts self.old self.new (replies_in self.old r) }
     {
         limit_law(&self.contexts);
         self.forget(&r);

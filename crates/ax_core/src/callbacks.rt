@@ -1,5 +1,5 @@
 //! Callbacks run.
-ghost use Rattle.std.specs.Prelude.{◌≡◌, ◌≤◌, ◌<◌, ◌+◌, ◌∷◌, [], length, IsSome, IfOk, OnOk};
+ghost use Rattle.std.specs.Prelude.{◌≡◌, ◌≤◌, ◌<◌, ◌+◌, ◌∷◌, [], true, length, IsSome, IfOk, OnOk};
 ghost use Rattle.ax_text.specs.Run.{time_after, times_after};
 ghost use Rattle.ax_time.specs.Timers.{PutsTimes, times_of};
 ghost use Rattle.ax_context.specs.Slots.{Has, IsLive, live_count};
@@ -7,21 +7,28 @@ ghost use Rattle.ax_buffer.specs.Buffer.{total};
 ghost use Rattle.ax_account.specs.Parts.{next_of, taken_up};
 ghost use Rattle.ax_account.specs.Accounts.{waiting_of, owner_of, Changes};
 ghost use Rattle.ax_execution.specs.Contexts as times;
+ghost use Rattle.ax_execution.specs.MachineControls.{MachineControl};
+ghost use Rattle.ax_core.specs.declared.effects.Ran.TheVariants as ran;
 ghost use Rattle.ax_core.specs.May.{has_mail};
+ghost use Rattle.ax_core.specs.Sound.{StandsFor, IsSound};
+ghost use Rattle.ax_core.specs.Events.{SameRules, KeysStay, Runs};
+ghost use Rattle.ax_core.specs.Order.{RunsFirst};
 ghost use Rattle.ax_core.specs.Callbacks.{Begins, WaitsAt, ResumedAt, HasBegun, HasResumed, item_for, items_for, IsHeld, IsQueued, ending, behind_marks, ended, all_left, AllMayLeave, OthersIdle, row_epochs, with_start, waits_next, HandsOver, GoesOn};
+ghost use Rattle.ax_core.specs.Calls.{CallEnds, IsReady, MayStart, MayReply, Started, Replied};
 
 use crate::controller::Controller;
-use crate::effects::Fired;
+use crate::effects::{Effects, Fired, Ran};
 use crate::record::Record;
 use ax_account::{Accounting, MOST_FIRINGS, Next};
 use ax_base::{Duplicate, NoMemory};
 use ax_buffer::{Item, RequestBuffer};
-use ax_context::{Contexts, Id};
+use ax_context::{Contexts, Id, Released};
 use ax_future::{Ask, Asks, Handler, Machine, TimerOp, Turn};
 use ax_keys::Key;
-use ax_lang::Program;
+use ax_lang::{Program, program_is_accepted};
 use ax_mailbox::{Mail, Mailbox};
 use ax_state::Answer;
+use ax_time::epoch_laws::sizes_law;
 use ax_time::{Epochs, Timers};
 use std::alloc::Global;
 
@@ -31,6 +38,101 @@ impl Controller {
         ensures { result ≡ has_mail self.now }
     {
         self.mails.len() > 0
+    }
+
+    /// Runs the first mail: a handler begins, or is given the answer that it waited for. Its requests join the queue of its key's
+    /// shard, in the order of their slots, its timers are set, and its lines are told. Where it has ended, its context is given
+    /// up, and the next row of the key is to be started, or its next timer fires.
+    ///
+    /// Condition: `mail_waits()`.
+    pub fn run_mail(&mut self) -> Result<Effects, NoMemory>
+        requires sound { IsSound self.old }
+        requires mail { has_mail self.old ≡ true }
+        ensures sound { OnOk result (IsSound self.new) }
+        ensures same { OnOk result (SameRules self.old self.new) }
+        ensures outs { OnOk result (self.new.outs ≡ self.old.outs) }
+        ensures event { IfOk result (λ f. (m : MachineControl) → StandsFor self.old m → Runs self.old self.new f m) }
+        ensures keys { OnOk result (KeysStay self.old self.new) }
+        ensures order { IfOk result (λ f. (m : MachineControl) → StandsFor self.old m → RunsFirst self.old self.new f m) }
+    {
+        program_is_accepted();
+        sizes_law(&self.epochs);
+        match self.mails.take() {
+            Some(Mail::Start { id }) => self.run_start(id),
+            Some(Mail::Fire { id }) => self.run_start(id),
+            Some(Mail::Reply { id, slot, answer }) => self.run_reply(id, slot, answer),
+            None => unreachable!(),
+        }
+    }
+
+    // The handler of a context begins.
+    fn run_start(&mut self, id: Id) -> Result<Effects, NoMemory>
+        requires { MayStart self.old id }
+        ensures ran { IfOk result (λ f. Has self.old.contexts id (λ h. f.ran ≡ ran.Start h.number)) }
+        ensures started { IfOk result (λ f. Has self.old.contexts id (Started self.old self.new id f)) }
+    {
+        let ran = Ran::Start {
+            context: self.contexts.number(id),
+        };
+        let turn = begin_at(self.alloc, &self.program, &mut self.contexts, id)?;
+        self.end_callback(id, ran, turn)
+    }
+
+    // It is given an answer.
+    fn run_reply(&mut self, id: Id, slot: u8, answer: Answer) -> Result<Effects, NoMemory>
+        requires { MayReply self.old id slot answer }
+        ensures ran { IfOk result (λ f. Has self.old.contexts id (λ h. f.ran ≡ ran.Reply h.number slot)) }
+        ensures replied { IfOk result (λ f. Has self.old.contexts id (Replied self.old self.new id slot answer f)) }
+    {
+        let ran = Ran::Reply {
+            context: self.contexts.number(id),
+            slot,
+        };
+        let turn = resume_at(&self.program, &mut self.contexts, id, slot, answer)?;
+        self.end_callback(id, ran, turn)
+    }
+
+    // Its timers are set, its requests asked, and a reference given up. Where that was the last, its key goes on.
+    fn end_callback(&mut self, id: Id, ran: Ran, turn: Turn) -> Result<Effects, NoMemory>
+        requires { IsReady self.old id turn }
+        ensures ran { IfOk result (λ f. f.ran ≡ ran) }
+        ensures ends { IfOk result (λ f. Has self.old.contexts id (λ h. CallEnds self.old self.new id h turn f)) }
+    {
+        let Turn {
+            asks,
+            outs,
+            timer_ops,
+        } = turn;
+        let key = self.contexts.get(id).facts.key.copy(self.alloc)?;
+        let shard = self.shard_of(&key);
+        set_timers(&mut self.timers, &key, timer_ops.as_slice())?;
+        ask_all(
+            self.alloc,
+            &mut self.contexts,
+            &mut self.buffer,
+            shard,
+            id,
+            &key,
+            asks,
+        )?;
+        let Released::Gone { payload, epoch, .. } = self.contexts.release(id) else {
+            return Ok(Effects {
+                key,
+                ran,
+                outs,
+                gone: false,
+                fired: None,
+            });
+        };
+        leave_row(&mut self.epochs, payload.handler, epoch);
+        let fired = self.go_on(&key)?;
+        Ok(Effects {
+            key,
+            ran,
+            outs,
+            gone: true,
+            fired,
+        })
     }
 
     // A key whose owner is given up is handed over, and a row that owns it now is to be started. Tells what comes next.

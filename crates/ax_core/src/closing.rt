@@ -1,5 +1,5 @@
 //! Epochs are closed, and their markers are sent.
-ghost use Rattle.std.specs.Prelude.{◌≡◌, ◌↔◌, ◌+◌, ◌≤◌, ◌<◌, ◌^◌, ◌<ℤ◌, length, true, IsTrue, OnOk};
+ghost use Rattle.std.specs.Prelude.{◌≡◌, ◌↔◌, ◌+◌, ◌≤◌, ◌<◌, ◌^◌, ◌<ℤ◌, [], length, true, IsTrue, OnOk};
 ghost use Rattle.ax_account.specs.Parts.{is_free};
 ghost use Rattle.ax_account.specs.Accounts.{part_of};
 ghost use Rattle.ax_execution.specs.Machine.{Close, ByWatermark, ByBarrier};
@@ -9,7 +9,8 @@ ghost use Rattle.ax_core.specs.May.{may_close, IsNext};
 ghost use Rattle.ax_core.specs.Epochs.{closing_of};
 ghost use Rattle.ax_core.specs.Closings.{barrier_left, Marks, MarksIf, MarksAll, books, current_count, every, is_free_at};
 ghost use Rattle.ax_core.specs.Sound.{rules_of, StandsFor, IsSound};
-ghost use Rattle.ax_core.specs.Events.{SameRules, Makes, SendsNext};
+ghost use Rattle.ax_core.specs.Events.{SameRules, KeysStay, Makes, SendsNext};
+ghost use Rattle.ax_core.specs.Order.{Posts};
 
 use crate::controller::Controller;
 use ax_account::{Accounting, Next};
@@ -47,6 +48,8 @@ impl Controller {
         ensures sound { OnOk result (IsSound self.new) }
         ensures same { OnOk result (SameRules self.old self.new) }
         ensures outs { OnOk result (self.new.outs ≡ self.old.outs) }
+        ensures keys { OnOk result (KeysStay self.old self.new) }
+        ensures order { OnOk result (Posts self.old self.new []) }
         ensures event { OnOk result ((c : MachineControl) → StandsFor self.old c → Makes self.old self.new (Close (closing_of m)) c) }
     {
         match m {
@@ -63,6 +66,8 @@ impl Controller {
         ensures sound { OnOk result (IsSound self.new) }
         ensures same { OnOk result (SameRules self.old self.new) }
         ensures outs { OnOk result (self.new.outs ≡ self.old.outs) }
+        ensures keys { OnOk result (KeysStay self.old self.new) }
+        ensures order { OnOk result (Posts self.old self.new []) }
         ensures event { OnOk result ((c : MachineControl) → StandsFor self.old c → Makes self.old self.new (Close (ByWatermark time)) c) }
     {
         sizes_law(&self.epochs);
@@ -87,6 +92,8 @@ impl Controller {
         ensures sound { OnOk result (IsSound self.new) }
         ensures same { OnOk result (SameRules self.old self.new) }
         ensures outs { OnOk result (self.new.outs ≡ self.old.outs) }
+        ensures keys { OnOk result (KeysStay self.old self.new) }
+        ensures order { OnOk result (Posts self.old self.new []) }
         ensures event { OnOk result ((c : MachineControl) → StandsFor self.old c → Makes self.old self.new (Close (ByBarrier id)) c) }
     {
         sizes_law(&self.epochs);
@@ -104,6 +111,8 @@ impl Controller {
         ensures sound { IsSound self.new }
         ensures same { SameRules self.old self.new }
         ensures outs { self.new.outs ≡ self.old.outs }
+        ensures keys { KeysStay self.old self.new }
+        ensures order { Posts self.old self.new [] }
         ensures event { (c : MachineControl) → StandsFor self.old c → SendsNext self.old self.new result c }
     {
         sizes_law(&self.epochs);

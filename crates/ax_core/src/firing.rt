@@ -1,5 +1,5 @@
 //! Timers fire.
-ghost use Rattle.std.specs.Prelude.{◌≡◌, ◌<◌, ◌↔◌, length, true, None, IsTrue, IsSome, IfOk, OnOk};
+ghost use Rattle.std.specs.Prelude.{◌≡◌, ◌<◌, ◌↔◌, ◌∷◌, [], length, true, None, IsTrue, IsSome, IfOk, OnOk};
 ghost use Rattle.ax_text.specs.Times.{least_time};
 ghost use Rattle.ax_time.specs.Timers.{times_of};
 ghost use Rattle.ax_context.specs.Slots.{live_count};
@@ -8,7 +8,9 @@ ghost use Rattle.ax_account.specs.Accounts.{owner_of, waiting_of, AreSound};
 ghost use Rattle.ax_execution.specs.MachineControls.{MachineControl};
 ghost use Rattle.ax_core.specs.May.{may_fire};
 ghost use Rattle.ax_core.specs.Sound.{StandsFor, IsSound};
-ghost use Rattle.ax_core.specs.Events.{SameRules, Fires, MayFireOn};
+ghost use Rattle.ax_core.specs.Events.{SameRules, KeysStay, Fires, MayFireOn};
+ghost use Rattle.ax_core.specs.declared.effects.Ran.TheVariants as ran;
+ghost use Rattle.ax_core.specs.Order.{Posts};
 ghost use Rattle.ax_core.specs.Firings.{FiresAt};
 
 use crate::controller::Controller;
@@ -49,6 +51,8 @@ impl Controller {
         ensures sound { OnOk result (IsSound self.new) }
         ensures same { OnOk result (SameRules self.old self.new) }
         ensures outs { OnOk result (self.new.outs ≡ self.old.outs) }
+        ensures keys { OnOk result (KeysStay self.old self.new) }
+        ensures order { IfOk result (λ f. Posts self.old self.new (ran.Start f.context ∷ [])) }
         ensures event { IfOk result (λ f. (m : MachineControl) → StandsFor self.old m → Fires self.old self.new f m) }
     {
         program_is_accepted();

@@ -33,7 +33,7 @@ use Rattle.ax_execution.specs.ControlChanges.{mark_stays_at, mark_stays, marks_o
 use Rattle.ax_execution.proofs.Upto.{by_cases}
 use Rattle.ax_execution.proofs.ControlSums.{shifted, entered}
 use Rattle.ax_execution.proofs.Orderly.{IsOrderly}
-use Rattle.ax_execution.proofs.EventControls.{event_control, gone_on}
+use Rattle.ax_execution.proofs.EventControls.{event_control, gone_on, fires_on}
 use Rattle.ax_execution.proofs.ControlsAllowed.{epochs_on, allowed_to}
 
 none_some : {A : Type 0} {x : A} → None ≡ Some x → ⊥
@@ -274,6 +274,25 @@ none_must r p (Serve k slot) a m h s d = h.0
 none_must r p (Deliver k slot) a m h s d = absurd (d k slot refl)
 none_must r p Send a m h s d = sent_must m.unsent m ∙ h.0
 
+pub says_must : (r : Rules) (p : Program) (e : Happening) (a : Option Answer) (m : MachineControl) → AllowedOn r e m → (outcome_on p e m).fires ≡ (happens_on p e a m).must
+says_must r p (Admit n k time values) a m h = sym h.0
+says_must r p (Close (ByWatermark w)) a m h = sym h.0
+says_must r p (Close (ByBarrier id)) a m h = sym h.0
+says_must r p (Fire n k) a m h = refl
+says_must r p (Start k) a m h = refl
+says_must r p (Serve k slot) a m h = sym h.0
+says_must r p (Deliver k slot) a m h = refl
+says_must r p Send a m h = sym (sent_must m.unsent m ∙ h.0)
+
+pub says_none : (p : Program) (e : Happening) (m : MachineControl) → ((k : Key) → e ≡ Start k → ⊥) → ((k : Key) (slot : ℕ) → e ≡ Deliver k slot → ⊥) → (outcome_on p e m).fires ≡ None
+says_none p (Admit n k time values) m s d = refl
+says_none p (Close c) m s d = refl
+says_none p (Fire n k) m s d = refl
+says_none p (Start k) m s d = absurd (s k refl)
+says_none p (Serve k slot) m s d = refl
+says_none p (Deliver k slot) m s d = absurd (d k slot refl)
+says_none p Send m s d = refl
+
 -- and of the machine itself
 
 pub keys_hold : (r : Rules) (m : Machine) → IsOrderly r m → IsStrictlySortedBy key_cmp m.keys → HoldBusy m.keys (control_of_machine m)
@@ -296,3 +315,6 @@ machine_epochs r m o rises g p u e h =
 pub machine_must : (r : Rules) (g : ℕ) (p : Program) (e : Happening) (m : Machine) → Allowed r e m
     → ((k : Key) → e ≡ Start k → ⊥) → ((k : Key) (slot : ℕ) → e ≡ Deliver k slot → ⊥) → (happens g p e m).must ≡ None
 machine_must r g p e m h s d = ap (λ (c : MachineControl). c.must) (event_control g p e m) ∙ none_must r p e (answer_of_event e m) (control_of_machine m) (allowed_to r e m h) s d
+
+pub machine_says : (r : Rules) (g : ℕ) (p : Program) (e : Happening) (m : Machine) → Allowed r e m → (outcome g p e m).fires ≡ (happens g p e m).must
+machine_says r g p e m h = fires_on g p e m ∙ says_must r p e (answer_of_event e m) (control_of_machine m) (allowed_to r e m h) ∙ sym (ap (λ (c : MachineControl). c.must) (event_control g p e m))

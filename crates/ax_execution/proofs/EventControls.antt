@@ -186,6 +186,10 @@ sends_keep : (g : ℕ) (p : Program) (cs : List Closed) (m : Machine) → (sends
 sends_keep g p [] m = refl
 sends_keep g p (c ∷ cs) m = refl
 
+sends_fire : (g : ℕ) (p : Program) (cs : List Closed) (m : Machine) → (sends_first g p cs m).fires ≡ None
+sends_fire g p [] m = refl
+sends_fire g p (c ∷ cs) m = refl
+
 said_lines : (k : Key) (a b : Effects) → a ≡ b → says k a.lines ≡ says k b.lines ++ []
 said_lines k a b e = ap (λ (x : Effects). says k x.lines) e ∙ sym (append-nil (says k b.lines))
 
@@ -216,3 +220,12 @@ gone_on g p (Start k) m = ap (λ (x : Effects). x.gone) (start_effects_see p (m.
 gone_on g p (Serve k slot) m = refl
 gone_on g p (Deliver k slot) m = ap (λ (x : Effects). x.gone) (deliver_effects_see slot (m.parts k).owner)
 gone_on g p Send m = sends_keep g p m.unsent m
+
+pub fires_on : (g : ℕ) (p : Program) (e : Happening) (m : Machine) → (outcome g p e m).fires ≡ (outcome_on p e (control_of_machine m)).fires
+fires_on g p (Admit n k time values) m = refl
+fires_on g p (Close c) m = refl
+fires_on g p (Fire n k) m = refl
+fires_on g p (Start k) m = must_control k (start p (m.parts k)) ∙ ap (must_fire_on k) (start_control p (m.parts k))
+fires_on g p (Serve k slot) m = refl
+fires_on g p (Deliver k slot) m = must_control k (deliver slot (m.parts k)) ∙ ap (must_fire_on k) (deliver_control slot (m.parts k))
+fires_on g p Send m = sends_fire g p m.unsent m

@@ -45,3 +45,4 @@ pub mod Handlers
 pub mod Stuck
 pub mod Upto
 pub mod Work
+pub mod WholeRuns

@@ -20,7 +20,7 @@ use Rattle.ax_execution.specs.ControlTurns.{is_idle_on, start_on, deliver_on, fi
 use Rattle.ax_execution.specs.Machine.{Closing, ByWatermark, ByBarrier, Closed, Happening, Admit, Close, Fire, Start, Serve, Deliver, Send, Rules, machine_from}
 use Rattle.ax_execution.specs.MachineControls.{MachineControl, at_origin, control_at, send_first_on, happens_on, control_numbered, number_count_on}
 use Rattle.ax_execution.specs.Allowed.{NumbersOwner, NotIn}
-use Rattle.ax_execution.specs.ControlsAllowed.{FirstIsFinishedOn, IsFinishedOn, IsNewOn, AllowedOn}
+use Rattle.ax_execution.specs.ControlsAllowed.{FirstIsFinishedOn, IsFinishedOn, IsNewOn, AllowedOn, HoldBusy, AreAllKeys}
 use Rattle.ax_execution.specs.ControlOrder.{StageGoesOn, OwnerGoesOn, FrontMayFire, IsInOrder, IsSoundRunning, StageIsSound, OwnerIsSound, AreSound}
 use Rattle.ax_execution.specs.Reached.{IsReached, OwnerOpen, WaitingOpen, MarksBelow, MarkInFront, Follow, IsOrderly}
 use Rattle.ax_execution.proofs.Upto.{by_cases}
@@ -247,3 +247,8 @@ reached_in_order r p m accepted reached = (reached_holds r p accepted m reached)
 
 pub reached_sound : (r : Rules) (p : Program) (m : MachineControl) → AreAccepted p → IsReached r p m → AreSound m
 reached_sound r p m accepted reached = (reached_holds r p accepted m reached).sound
+
+pub reached_busy : (r : Rules) (p : Program) (m : MachineControl) → AreAccepted p → IsReached r p m → HoldBusy m.keys m
+reached_busy r p m accepted reached =
+    let all : AreAllKeys m = (reached_in_order r p m accepted reached).keys in
+    record { rise = all.rise; others = all.others }

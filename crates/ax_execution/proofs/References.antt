@@ -1,19 +1,15 @@
 -- References: a context is in flight exactly while it has some, and it is given up where a callback leaves none.
-use Rattle.std.proofs.Common.{◌≡◌, ℕ, ◌+◌, ◌≤◌, ◌<◌, nat_eq, List, [], ◌∷◌, ◌++◌, Bool, true, false, cond, ◌||◌, Option, Some, None, refl, ap, ap₂, ◌∙◌, arith}
-use Rattle.std.proofs.lemmas.Bool.{cond-true, eq-eqb}
+use Rattle.std.proofs.Common.{◌≡◌, ℕ, ◌+◌, ◌≤◌, ◌<◌, nat_eq, List, [], ◌∷◌, Bool, true, false, cond, Option, Some, None, refl, ap, arith}
+use Rattle.std.proofs.lemmas.Bool.{cond-true}
 use Rattle.std.specs.Str.{bytes_eq}
 use Rattle.std.specs.List.{list_any}
 use Rattle.std.specs.List.Sorted.{IsStrictlySortedBy}
 use Rattle.ax_keys.specs.Keys.{key_cmp}
 use Rattle.ax_text.specs.Programs.{Program}
-use Rattle.ax_text.specs.Prints.{has}
-use Rattle.ax_text.specs.Controls.{Control, Done, Wait, Arms, slots}
-use Rattle.ax_text.specs.Sound.{Split}
-use Rattle.ax_text.proofs.Steps.{mem_append}
 use Rattle.ax_machine.specs.Entries.{Key}
 use Rattle.ax_execution.specs.Contexts.{Context}
 use Rattle.ax_execution.specs.Sums.{total}
-use Rattle.ax_execution.specs.Counts.{references, one_at, owner_numbered, rows_numbered, part_numbered, number_count, owner_references, part_references, reference_count, one_if_gone, made_as, owns, calls, counted, AreDistinct}
+use Rattle.ax_execution.specs.Counts.{references, one_at, owner_numbered, rows_numbered, part_numbered, number_count, owner_references, part_references, reference_count, one_if_gone, made_as, owns, calls, counted}
 use Rattle.ax_execution.specs.Machine.{Machine, Happening, Admit, Close, Fire, Start, Serve, Deliver, Send, Rules, happens, outcome}
 use Rattle.ax_execution.specs.Allowed.{StageUnbegun, StageHas, Allowed}
 use Rattle.ax_execution.proofs.Handles.{Handles}
@@ -27,31 +23,6 @@ use Rattle.ax_execution.proofs.GivenUp.{numbers_change}
 
 false_true : false ≡ true → ⊥
 false_true e = cc e
-
--- slots differ
-
-distinct_both : (xs ys : List ℕ) → AreDistinct xs → AreDistinct ys → ((s : ℕ) → has s xs ≡ true → has s ys ≡ false) → AreDistinct (xs ++ ys)
-distinct_both [] ys a b h = b
-distinct_both (x ∷ xs) ys a b h = (
-  mem_append x xs ys ∙ ap₂ (λ (u v : Bool). u || v) a.0 (h x (of (nat_eq x x) (same x))),
-  distinct_both xs ys a.1 b (λ s m. h s (later (nat_eq s x) (has s xs) m)),
-)
-  where
-    same : (n : ℕ) → nat_eq n n ≡ true
-    same n = eq-eqb n n refl
-
-    of : (b : Bool) → b ≡ true → (b || has x xs) ≡ true
-    of b e = ap (λ (c : Bool). c || has x xs) e
-
-    later : (b c : Bool) → c ≡ true → (b || c) ≡ true
-    later true c e = refl
-    later false c e = e
-
-pub distinct_slots : (c : Control) → Split c → AreDistinct (slots c)
-unfolding Split
-distinct_slots Done h = tt
-distinct_slots (Wait s r n k) h = (refl, tt)
-distinct_slots (Arms one two k) h = distinct_both (slots one) (slots two) (distinct_slots one h.1) (distinct_slots two h.2) h.0
 
 -- a context has a number where it has references
 

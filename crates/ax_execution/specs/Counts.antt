@@ -1,8 +1,7 @@
 -- The references of a context, and what of an epoch is left.
-use Rattle.std.specs.Prelude.{◌≡◌, ℕ, ◌+◌, nat_eq, List, [], ◌∷◌, length, Bool, true, false, if◌then◌else◌, Option, Some, None}
+use Rattle.std.specs.Prelude.{ℕ, ◌+◌, nat_eq, List, [], ◌∷◌, length, Bool, true, false, if◌then◌else◌, Option, Some, None}
 use Rattle.ax_text.specs.declared.vocabulary.Handler.{Handler}
 use Rattle.ax_text.specs.declared.vocabulary.Handler.TheVariants as handler
-use Rattle.ax_text.specs.Prints.{has}
 use Rattle.ax_text.specs.Controls.{slots}
 use Rattle.ax_execution.specs.Contexts.{Stage, Unbegun, Begun, Context, Waiting, Row, Mark, Part}
 use Rattle.ax_execution.specs.Machine.{Machine, Happening, Admit, Close, Fire, Start, Serve, Deliver, Send}
@@ -12,11 +11,6 @@ use Rattle.ax_execution.specs.Sums.{total}
 abbrev pub references : Stage → ℕ
 references Unbegun = 1
 references (Begun r) = length (slots r.control)
-
--- each slot stands once
-abbrev pub AreDistinct : List ℕ → Type 0
-AreDistinct [] = Unit {0}
-AreDistinct (s ∷ ss) = (has s ss ≡ false) × AreDistinct ss
 
 abbrev pub one_at : ℕ → ℕ → ℕ
 one_at e f = if nat_eq f e then 1 else 0

@@ -1,5 +1,5 @@
 -- Worked rows of the machine's rarer turns.
-use Rattle.std.specs.Prelude.{pos, List, [], ◌∷◌, Some}
+use Rattle.std.specs.Prelude.{pos, List, [], ◌∷◌, ◌++◌, Some}
 use lib.Chars.{codes}
 use Rattle.ax_text.specs.declared.vocabulary.Kind.TheVariants as kind
 use Rattle.ax_text.specs.declared.vocabulary.Atom.TheVariants as atom
@@ -21,9 +21,13 @@ marked = Admit 1 a (pos 1) (pos 9 ∷ []) ∷ Close (ByWatermark (pos 3)) ∷ []
 abbrev pub row_behind_mark : List Happening
 row_behind_mark = Admit 1 a (pos 1) (pos 9 ∷ []) ∷ Close (ByWatermark (pos 3)) ∷ Admit 2 a (pos 4) (pos 9 ∷ []) ∷ Start a ∷ []
 
--- two timers of a key are due at one watermark, and the first has fired
+-- two timers of a key are due at one watermark, and the first fires
+abbrev pub fires_first : List Happening
+fires_first = Admit 1 a (pos 1) (pos 3 ∷ []) ∷ Start a ∷ Admit 2 a (pos 2) (pos 4 ∷ []) ∷ Start a ∷ Close (ByWatermark (pos 5)) ∷ Fire 3 a ∷ []
+
+-- and has run
 abbrev pub fires_twice : List Happening
-fires_twice = Admit 1 a (pos 1) (pos 3 ∷ []) ∷ Start a ∷ Admit 2 a (pos 2) (pos 4 ∷ []) ∷ Start a ∷ Close (ByWatermark (pos 5)) ∷ Fire 3 a ∷ Start a ∷ []
+fires_twice = fires_first ++ Start a ∷ []
 
 -- at a row: timer v1; at a timer: x = get c or 0, emit x
 abbrev pub waking : Program

@@ -13,6 +13,7 @@ pub mod MachineControls
 pub mod Asks
 pub mod Merges
 pub mod Allowed
+pub mod Runs
 pub mod Tests
 pub mod ControlsAllowed
 pub mod ControlChanges

@@ -119,29 +119,31 @@ happens g p (Deliver k slot) m = calls_back k (deliver_effects slot (m.parts k))
 happens g p Send m = send_first g p m.unsent m
 
 -- what an event does besides changing the machine's state: the entries that it writes, the requests that it asks, in the order
--- of their slots, and whether a context is given up
+-- of their slots, whether a context is given up, and which key must fire behind it
 pub record Outcome : Type 0 where
   pub entries : List Entry
   pub asks : List Ask'
   pub gone : Bool
+  pub fires : Option Key
 
 abbrev pub no_outcome : Outcome
-no_outcome = record { entries = []; asks = []; gone = false }
+no_outcome = record { entries = []; asks = []; gone = false; fires = None }
 
-abbrev pub outcome_of : Key → Effects → Outcome
-outcome_of k effects = record { entries = says k effects.lines; asks = effects.asks; gone = effects.gone }
+-- of a callback that leaves its key so
+abbrev pub outcome_of : Key → Effects → Part → Outcome
+outcome_of k effects part = record { entries = says k effects.lines; asks = effects.asks; gone = effects.gone; fires = must_fire k part }
 
 abbrev pub sends_first : ℕ → Program → List Closed → Machine → Outcome
 sends_first g p [] m = no_outcome
-sends_first g p (c ∷ cs) m = record { entries = entry.Mark (marker_of g p c.closing m) ∷ []; asks = []; gone = false }
+sends_first g p (c ∷ cs) m = record { entries = entry.Mark (marker_of g p c.closing m) ∷ []; asks = []; gone = false; fires = None }
 
 abbrev pub outcome : ℕ → Program → Happening → Machine → Outcome
 outcome g p (Admit n k time values) m = no_outcome
 outcome g p (Close c) m = no_outcome
 outcome g p (Fire n k) m = no_outcome
-outcome g p (Start k) m = outcome_of k (start_effects p (m.parts k))
+outcome g p (Start k) m = outcome_of k (start_effects p (m.parts k)) (start p (m.parts k))
 outcome g p (Serve k slot) m = no_outcome
-outcome g p (Deliver k slot) m = outcome_of k (deliver_effects slot (m.parts k))
+outcome g p (Deliver k slot) m = outcome_of k (deliver_effects slot (m.parts k)) (deliver slot (m.parts k))
 outcome g p Send m = sends_first g p m.unsent m
 
 -- the contexts that were made and not given up, waiting rows among them

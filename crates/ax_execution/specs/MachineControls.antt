@@ -117,18 +117,20 @@ answer_of_event (Deliver k slot) m = None
 answer_of_event Send m = None
 
 -- what an event does besides: the lines that it writes, the requests that it asks, in the order of their slots, whether a context
--- is given up, and what closed the epoch whose marker it sends
+-- is given up, which key must fire behind it, and what closed the epoch whose marker it sends
 pub record ControlOutcome : Type 0 where
   pub lines : List Entry
   pub asks : List Ask'
   pub gone : Bool
+  pub fires : Option Key
   pub sent : Option Closing
 
 abbrev pub says_nothing : Option Closing → ControlOutcome
-says_nothing sent = record { lines = []; asks = []; gone = false; sent = sent }
+says_nothing sent = record { lines = []; asks = []; gone = false; fires = None; sent = sent }
 
-abbrev pub outcome_of_effects : Key → Effects → ControlOutcome
-outcome_of_effects k effects = record { lines = says k effects.lines; asks = effects.asks; gone = effects.gone; sent = None }
+-- of a callback that leaves its key so
+abbrev pub outcome_of_effects : Key → Effects → KeyControl → ControlOutcome
+outcome_of_effects k effects c = record { lines = says k effects.lines; asks = effects.asks; gone = effects.gone; fires = must_fire_on k c; sent = None }
 
 abbrev pub first_closing : List Closed → Option Closing
 first_closing [] = None
@@ -138,9 +140,9 @@ abbrev pub outcome_on : Program → Happening → MachineControl → ControlOutc
 outcome_on p (Admit n k time values) m = says_nothing None
 outcome_on p (Close c) m = says_nothing None
 outcome_on p (Fire n k) m = says_nothing None
-outcome_on p (Start k) m = outcome_of_effects k (owner_starts p (m.controls k).owner)
+outcome_on p (Start k) m = outcome_of_effects k (owner_starts p (m.controls k).owner) (start_on p (m.controls k))
 outcome_on p (Serve k slot) m = says_nothing None
-outcome_on p (Deliver k slot) m = outcome_of_effects k (owner_gives slot (m.controls k).owner)
+outcome_on p (Deliver k slot) m = outcome_of_effects k (owner_gives slot (m.controls k).owner) (deliver_on slot (m.controls k))
 outcome_on p Send m = says_nothing (first_closing m.unsent)
 
 -- the marker of what closed an epoch, if any is sent; its text is what the cells have

@@ -3,18 +3,18 @@ ghost use Rattle.std.specs.Prelude.{◌≡◌, ℕ, ◌+◌, ◌≤◌, ◌<◌,
 ghost use Rattle.ax_text.specs.declared.vocabulary.Answer.{Answer};
 ghost use Rattle.ax_text.specs.Programs.{Program};
 ghost use Rattle.ax_text.specs.Controls.{slots};
-ghost use Rattle.ax_text.specs.Underway.{SlotsRise};
+ghost use Rattle.ax_text.specs.Underway.{SlotsRise, Differ};
 ghost use Rattle.ax_machine.specs.Entries.{Key};
 ghost use Rattle.ax_execution.specs.Accepted.{AreAccepted};
 ghost use Rattle.ax_execution.specs.Asks.{owner_waits, waits_behind, AreOutside, slots_beside};
 ghost use Rattle.ax_execution.specs.Contexts.{Running, Begun, Context};
-ghost use Rattle.ax_execution.specs.Counts.{references, AreDistinct, one_if_gone, made, made_as, counted};
+ghost use Rattle.ax_execution.specs.Counts.{references, one_if_gone, made, made_as, counted};
 ghost use Rattle.ax_execution.specs.Origins.{Origin, IsOrigin};
 ghost use Rattle.ax_execution.specs.Machine.{Closed, Happening, Start, Deliver, Rules, machine_from, machine_of};
 ghost use Rattle.ax_execution.specs.Allowed.{IsRun};
 ghost use Rattle.ax_execution.specs.MachineControls.{MachineControl, control_of_machine, at_origin, happens_on, outcome_on, in_flight_on, epoch_count_on, number_count_on, reference_count_on};
 ghost use Rattle.ax_execution.specs.ControlsAllowed.{IsFinishedOn, AllowedOn, IsAnswered, allowed_on, over_keys, HoldBusy};
-ghost use Rattle.ax_execution.specs.ControlChanges.{calls_on};
+ghost use Rattle.ax_execution.specs.ControlChanges.{calls_on, enters, leaves};
 ghost use Rattle.ax_execution.specs.ControlOrder.{IsInOrder, AreSound};
 ghost use Rattle.ax_execution.specs.Reached.{IsReached, owed_in, IsOrderly};
 ghost use Rattle.ax_execution.specs.OwedChanges.{owed_more, owed_less};
@@ -34,24 +34,25 @@ pub fn machines_reach_controls()
 /// come next, and for that firing there is room; a mark in front of a key that nobody owns may fire, and the mark of a firing stays in front
 /// of its key; a handler that has begun isn't done, and has answers only at slots that wait; what is left is of epochs whose marker isn't
 /// sent, and marks are of closed ones; the closed epochs whose markers aren't sent follow one another up to the current one; the times of
-/// each key rise, and so do the keys of rows; a key that isn't among them has no owner, nothing that waits and no timer.
+/// each key rise, and so do the keys of rows; a key that isn't among them has no owner, nothing that waits and no timer, so sums over them are sums over all
+/// keys.
 pub fn reached_controls_are_orderly()
     ensures orderly { (r : Rules) (p : Program) (m : MachineControl) → AreAccepted p → IsReached r p m → IsOrderly r m }
     ensures in_order { (r : Rules) (p : Program) (m : MachineControl) → AreAccepted p → IsReached r p m → IsInOrder r m }
     ensures sound { (r : Rules) (p : Program) (m : MachineControl) → AreAccepted p → IsReached r p m → AreSound m }
+    ensures busy { (r : Rules) (p : Program) (m : MachineControl) → AreAccepted p → IsReached r p m → HoldBusy m.keys m }
 {}
 
 /// Owners gain one reference for each new owner and for each request that is asked, and lose one for each callback that ends. A row that
 /// comes is a new owner where its key is free, a firing always is, and so is a row that takes a key behind a context that is given up.
 pub fn owners_gain_and_lose()
-    ensures control { (r : Rules) (p : Program) (e : Happening) (a : Option Answer) (m : MachineControl) → IsInOrder r m → AreSound m → AllowedOn r e m
-        → owed_in (happens_on p e a m) + owed_less e ≡ owed_in m + owed_more p e m (happens_on p e a m) }
-    ensures reached { (r : Rules) (p : Program) (e : Happening) (a : Option Answer) (m : MachineControl) → AreAccepted p → IsReached r p m → AllowedOn r e m
+    ensures { (r : Rules) (p : Program) (e : Happening) (a : Option Answer) (m : MachineControl) → AreAccepted p → IsReached r p m → AllowedOn r e m
         → owed_in (happens_on p e a m) + owed_less e ≡ owed_in m + owed_more p e m (happens_on p e a m) }
 {}
 
 /// Admit and Fire make one context, one is given up exactly where the outcome says so, and references rise by what is asked and fall by one
-/// as a callback ends. Nothing else changes how many contexts are in flight or have a number, nor their references.
+/// as a callback ends. Nothing else changes how many contexts are in flight or have a number, nor their references. Rows and marks enter an
+/// epoch and leave it as in any control whose keys hold the busy ones.
 pub fn reached_contexts_come_and_go()
     ensures flight { (r : Rules) (p : Program) (e : Happening) (a : Option Answer) (m : MachineControl) → AreAccepted p → IsReached r p m → AllowedOn r e m
         → in_flight_on (happens_on p e a m) + one_if_gone (outcome_on p e m).gone ≡ in_flight_on m + made e }
@@ -59,6 +60,8 @@ pub fn reached_contexts_come_and_go()
         → number_count_on n (happens_on p e a m) + counted (calls_on n e m) (one_if_gone (outcome_on p e m).gone) ≡ number_count_on n m + made_as n e }
     ensures references { (r : Rules) (p : Program) (n : ℕ) (e : Happening) (a : Option Answer) (m : MachineControl) → AreAccepted p → IsReached r p m → AllowedOn r e m
         → reference_count_on n (happens_on p e a m) + counted (calls_on n e m) 1 ≡ reference_count_on n m + (made_as n e + counted (calls_on n e m) (length (outcome_on p e m).asks)) }
+    ensures epochs { (r : Rules) (p : Program) (u : ℕ) (e : Happening) (a : Option Answer) (m : MachineControl) → AreAccepted p → IsReached r p m → AllowedOn r e m
+        → epoch_count_on u (happens_on p e a m) + leaves u e (outcome_on p e m).gone m (happens_on p e a m) ≡ epoch_count_on u m + enters u e m }
 {}
 
 /// An epoch is finished exactly where no context of a row of it or of an earlier one is in flight, and no mark of them is left. So is each
@@ -81,7 +84,7 @@ pub fn reached_events_are_decided()
 /// given up exactly at the event that leaves none.
 pub fn reached_references_are_counted()
     ensures slots { (r : Rules) (p : Program) (m : MachineControl) (k : Key) (c : Context) (running : Running) → AreAccepted p → IsReached r p m
-        → (m.controls k).owner ≡ Some c → c.stage ≡ Begun running → AreDistinct (slots running.control) }
+        → (m.controls k).owner ≡ Some c → c.stage ≡ Begun running → Differ (slots running.control) }
     ensures referred { (r : Rules) (p : Program) (m : MachineControl) (k : Key) (c : Context) → AreAccepted p → IsReached r p m → (m.controls k).owner ≡ Some c → 0 < references c.stage }
     ensures live { (r : Rules) (p : Program) (m : MachineControl) (n : ℕ) → AreAccepted p → IsReached r p m
         → (number_count_on n m ≡ 0 → reference_count_on n m ≡ 0) × (reference_count_on n m ≡ 0 → number_count_on n m ≡ 0) }

@@ -7,7 +7,7 @@ ghost use Rattle.ax_machine.specs.Examples.{counting, alarm};
 ghost use Rattle.ax_execution.specs.Contexts.{row_context, Row, Mark};
 ghost use Rattle.ax_execution.specs.Groups.{row_facts};
 ghost use Rattle.ax_execution.specs.Machine.{Admit, Close, ByWatermark, ByBarrier, Start, Serve, Deliver, Send};
-ghost use Rattle.ax_execution.specs.Counts.{AreDistinct};
+ghost use Rattle.ax_text.specs.Underway.{Differ};
 ghost use Rattle.ax_execution.specs.Asks.{AreOutside};
 ghost use Rattle.ax_execution.specs.MachineControls.{control_of_machine};
 ghost use Rattle.ax_execution.specs.ControlChanges.{enters, leaves};
@@ -49,7 +49,7 @@ pub fn rows_and_marks_of_an_epoch()
 /// current one, a mark of the current epoch, a firing without its mark in front, an epoch to come and one whose marker was sent, also of an
 /// owner or a row that waits.
 pub fn conditions_refuse()
-    ensures slots { AreDistinct (1 ∷ 2 ∷ 1 ∷ []) → ⊥ }
+    ensures slots { Differ (1 ∷ 2 ∷ 1 ∷ []) → ⊥ }
     ensures used { AreOutside (1 ∷ []) (record { slot = 1; request = request.ValueGet 0 } ∷ []) → ⊥ }
     ensures first { Follow 1 (record { epoch = 2; closing = ByBarrier (pos 1) } ∷ []) 3 → ⊥ }
     ensures last { Follow 1 (record { epoch = 1; closing = ByBarrier (pos 1) } ∷ []) 3 → ⊥ }

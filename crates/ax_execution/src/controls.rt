@@ -4,6 +4,7 @@ ghost use Rattle.ax_text.specs.declared.vocabulary.Answer.{Answer};
 ghost use Rattle.ax_text.specs.declared.vocabulary.Request.{Request};
 ghost use Rattle.ax_text.specs.Cells.{Cells, cells_after};
 ghost use Rattle.ax_text.specs.Programs.{Program};
+ghost use Rattle.ax_text.specs.Underway.{Differ};
 ghost use Rattle.ax_text.specs.Controls.{request_at, slots};
 ghost use Rattle.ax_machine.specs.Entries.{Key};
 ghost use Rattle.ax_execution.specs.Accepted.{AreAccepted};
@@ -11,7 +12,8 @@ ghost use Rattle.ax_execution.specs.Sums.{total};
 ghost use Rattle.ax_execution.specs.Contexts.{Running, Begun, Context};
 ghost use Rattle.ax_execution.specs.Origins.{Origin, IsOrigin};
 ghost use Rattle.ax_execution.specs.Machine.{Machine, Happening, Start, Serve, Deliver, Rules, must_fire, happens, after_all, outcome, machine_from, machine_of, in_flight, work};
-ghost use Rattle.ax_execution.specs.Counts.{AreDistinct, epoch_count, number_count, reference_count, one_if_gone, made, made_as, counted};
+ghost use Rattle.ax_execution.specs.Counts.{epoch_count, number_count, reference_count, one_if_gone, made, made_as, counted};
+ghost use Rattle.ax_execution.specs.Runs.{AcceptedRun, end_of, end_with, outcome_at};
 ghost use Rattle.ax_execution.specs.Allowed.{Allowed, IsRun};
 ghost use Rattle.ax_execution.specs.Tests.{allowed};
 ghost use Rattle.ax_execution.specs.ControlTurns.{contexts_on};
@@ -28,12 +30,13 @@ pub fn control_goes_by_itself()
     ensures origin { (from : Origin) → control_of_machine (machine_from from) ≡ at_origin from }
 {}
 
-/// What an event does besides is seen of the control: the lines that it writes, the requests that it asks and whether a context is
-/// given up. Of the marker that it sends only the text takes more.
+/// What an event does besides is seen of the control: the lines that it writes, the requests that it asks, whether a context is given
+/// up and which key must fire. Of the marker that it sends only the text takes more.
 pub fn outcomes_see_the_control()
     ensures entries { (g : ℕ) (p : Program) (e : Happening) (m : Machine) → (outcome g p e m).entries ≡ (outcome_on p e (control_of_machine m)).lines ++ sent_entries g p (outcome_on p e (control_of_machine m)).sent m }
     ensures asks { (g : ℕ) (p : Program) (e : Happening) (m : Machine) → (outcome g p e m).asks ≡ (outcome_on p e (control_of_machine m)).asks }
     ensures gone { (g : ℕ) (p : Program) (e : Happening) (m : Machine) → (outcome g p e m).gone ≡ (outcome_on p e (control_of_machine m)).gone }
+    ensures fires { (g : ℕ) (p : Program) (e : Happening) (m : Machine) → (outcome g p e m).fires ≡ (outcome_on p e (control_of_machine m)).fires }
 {}
 
 /// Whether an event is allowed is seen of the control, and so is whether events are a run, once each serve has its answer.
@@ -59,8 +62,7 @@ pub fn busy_keys_are_enough()
     ensures epochs { (u : ℕ) (ks : List Key) (m : MachineControl) → HoldBusy ks m → HoldBusy m.keys m → total ks (λ k. control_of_epoch u (m.controls k)) ≡ epoch_count_on u m }
     ensures numbers { (n : ℕ) (ks : List Key) (m : MachineControl) → HoldBusy ks m → HoldBusy m.keys m → total ks (λ k. control_numbered n (m.controls k)) ≡ number_count_on n m }
     ensures references { (n : ℕ) (ks : List Key) (m : MachineControl) → HoldBusy ks m → HoldBusy m.keys m → total ks (λ k. control_references n (m.controls k)) ≡ reference_count_on n m }
-    ensures keys { (r : Rules) (g : ℕ) (p : Program) (from : Origin) (es : List Happening) → AreAccepted p → IsOrigin p from → IsRun r g p es (machine_from from)
-        → HoldBusy (machine_of g p from es).keys (control_of_machine (machine_of g p from es)) }
+    ensures keys { (run : AcceptedRun) → HoldBusy (end_of run).keys (control_of_machine (end_of run)) }
 {}
 
 /// A control's keys are all that have an owner, something that waits or a timer: at an origin, and behind each event that is allowed. So they
@@ -77,8 +79,7 @@ pub fn keys_stay_all()
 pub fn controls_stay_in_order()
     ensures origin { (r : Rules) (p : Program) (from : Origin) → IsOrigin p from → IsInOrder r (at_origin from) }
     ensures event { (r : Rules) (p : Program) (e : Happening) (a : Option Answer) (m : MachineControl) → IsInOrder r m → AllowedOn r e m → IsInOrder r (happens_on p e a m) }
-    ensures run { (r : Rules) (g : ℕ) (p : Program) (from : Origin) (es : List Happening) → AreAccepted p → IsOrigin p from → IsRun r g p es (machine_from from)
-        → IsInOrder r (control_of_machine (machine_of g p from es)) }
+    ensures run { (run : AcceptedRun) → IsInOrder run.rules (control_of_machine (end_of run)) }
 {}
 
 /// Whatever answers come, the arms of a handler on its way stay apart and wait at different slots, it waits unless it is done, and answers
@@ -86,21 +87,8 @@ pub fn controls_stay_in_order()
 pub fn handlers_stay_sound()
     ensures origin { (from : Origin) → AreSound (at_origin from) }
     ensures event { (r : Rules) (p : Program) (e : Happening) (a : Option Answer) (m : MachineControl) → AreAccepted p → AreSound m → AllowedOn r e m → AreSound (happens_on p e a m) }
-    ensures slots { (running : Running) → IsSoundRunning running → AreDistinct (slots running.control) }
-    ensures run { (r : Rules) (g : ℕ) (p : Program) (from : Origin) (es : List Happening) → AreAccepted p → IsOrigin p from → IsRun r g p es (machine_from from)
-        → AreSound (control_of_machine (machine_of g p from es)) }
-{}
-
-/// In a control that is in order and whose handlers are sound, Admit and Fire make one context, one is given up exactly where the outcome
-/// says so, and references rise by what is asked and fall by one as a callback ends. Nothing else changes how many contexts are in flight
-/// or have a number, nor their references.
-pub fn contexts_come_and_go()
-    ensures flight { (r : Rules) (p : Program) (e : Happening) (a : Option Answer) (m : MachineControl) → IsInOrder r m → AreSound m → AllowedOn r e m
-        → in_flight_on (happens_on p e a m) + one_if_gone (outcome_on p e m).gone ≡ in_flight_on m + made e }
-    ensures numbers { (r : Rules) (p : Program) (n : ℕ) (e : Happening) (a : Option Answer) (m : MachineControl) → IsInOrder r m → AreSound m → AllowedOn r e m
-        → number_count_on n (happens_on p e a m) + counted (calls_on n e m) (one_if_gone (outcome_on p e m).gone) ≡ number_count_on n m + made_as n e }
-    ensures references { (r : Rules) (p : Program) (n : ℕ) (e : Happening) (a : Option Answer) (m : MachineControl) → IsInOrder r m → AreSound m → AllowedOn r e m
-        → reference_count_on n (happens_on p e a m) + counted (calls_on n e m) 1 ≡ reference_count_on n m + (made_as n e + counted (calls_on n e m) (length (outcome_on p e m).asks)) }
+    ensures slots { (running : Running) → IsSoundRunning running → Differ (slots running.control) }
+    ensures run { (run : AcceptedRun) → AreSound (control_of_machine (end_of run)) }
 {}
 
 /// Only a serve changes cells, and only those of its key: by what is asked at its slot.
@@ -117,13 +105,14 @@ pub fn only_serves_change_cells()
 pub fn epochs_gain_and_lose()
     ensures control { (r : Rules) (p : Program) (u : ℕ) (e : Happening) (a : Option Answer) (m : MachineControl) → HoldBusy m.keys m → AllowedOn r e m
         → epoch_count_on u (happens_on p e a m) + leaves u e (outcome_on p e m).gone m (happens_on p e a m) ≡ epoch_count_on u m + enters u e m }
-    ensures run { (r : Rules) (g : ℕ) (p : Program) (from : Origin) (es : List Happening) (e : Happening) (u : ℕ) → AreAccepted p → IsOrigin p from → IsRun r g p es (machine_from from) → Allowed r e (machine_of g p from es)
-        → epoch_count u (happens g p e (machine_of g p from es))
-        + leaves u e (outcome g p e (machine_of g p from es)).gone (control_of_machine (machine_of g p from es)) (control_of_machine (happens g p e (machine_of g p from es)))
-        ≡ epoch_count u (machine_of g p from es) + enters u e (control_of_machine (machine_of g p from es)) }
+    ensures run { (run : AcceptedRun) (e : Happening) (u : ℕ) → Allowed run.rules e (end_of run)
+        → epoch_count u (end_with run e)
+        + leaves u e (outcome_at run e).gone (control_of_machine (end_of run)) (control_of_machine (end_with run e))
+        ≡ epoch_count u (end_of run) + enters u e (control_of_machine (end_of run)) }
 {}
 
-/// Behind a callback its key must fire exactly where it is idle there, and behind any other event that is allowed no key must.
+/// Behind a callback its key must fire exactly where it is idle there, and behind any other event that is allowed no key must. The outcome
+/// says which.
 pub fn callbacks_say_who_must_fire()
     ensures start { (p : Program) (k : Key) (a : Option Answer) (m : MachineControl) → (happens_on p (Start k) a m).must ≡ must_fire_on k ((happens_on p (Start k) a m).controls k) }
     ensures deliver { (p : Program) (k : Key) (slot : ℕ) (a : Option Answer) (m : MachineControl) → (happens_on p (Deliver k slot) a m).must ≡ must_fire_on k ((happens_on p (Deliver k slot) a m).controls k) }
@@ -133,6 +122,10 @@ pub fn callbacks_say_who_must_fire()
     ensures machine_deliver { (g : ℕ) (p : Program) (k : Key) (slot : ℕ) (m : Machine) → (happens g p (Deliver k slot) m).must ≡ must_fire k ((happens g p (Deliver k slot) m).parts k) }
     ensures machine_none { (r : Rules) (g : ℕ) (p : Program) (e : Happening) (m : Machine) → Allowed r e m
         → ((k : Key) → e ≡ Start k → ⊥) → ((k : Key) (slot : ℕ) → e ≡ Deliver k slot → ⊥) → (happens g p e m).must ≡ None }
+    ensures says { (r : Rules) (p : Program) (e : Happening) (a : Option Answer) (m : MachineControl) → AllowedOn r e m → (outcome_on p e m).fires ≡ (happens_on p e a m).must }
+    ensures says_none { (p : Program) (e : Happening) (m : MachineControl) → ((k : Key) → e ≡ Start k → ⊥) → ((k : Key) (slot : ℕ) → e ≡ Deliver k slot → ⊥) → (outcome_on p e m).fires ≡ None }
+    ensures machine_says { (r : Rules) (g : ℕ) (p : Program) (e : Happening) (m : Machine) → Allowed r e m → (outcome g p e m).fires ≡ (happens g p e m).must }
+    ensures machine_says_none { (g : ℕ) (p : Program) (e : Happening) (m : Machine) → ((k : Key) → e ≡ Start k → ⊥) → ((k : Key) (slot : ℕ) → e ≡ Deliver k slot → ⊥) → (outcome g p e m).fires ≡ None }
 {}
 
 /// The work left is computed from the control and the cells alone, and over any rising keys that hold the busy ones.

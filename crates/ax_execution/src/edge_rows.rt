@@ -1,12 +1,13 @@
 //! Worked rows of the machine's rarer turns.
-ghost use Rattle.std.specs.Prelude.{◌≡◌, [], ◌∷◌, ◌++◌, pos, true, false, Some};
+ghost use Rattle.std.specs.Prelude.{◌≡◌, [], ◌∷◌, ◌++◌, pos, true, false, Some, None};
 ghost use Rattle.ax_machine.specs.Entries.{Out};
 ghost use Rattle.ax_machine.specs.Examples.{counting, alarm, line, watermark};
 ghost use Rattle.ax_execution.specs.Contexts.{rows_in};
 ghost use Rattle.ax_execution.specs.Machine.{outcome, in_flight, Fire, Start, Serve, Deliver, Send};
 ghost use Rattle.ax_execution.specs.Counts.{epoch_count};
-ghost use Rattle.ax_execution.specs.Rows.{a, serially, in_parallel, behind, may_run, may_follow, round_a_watermark, mark_behind, crossing};
-ghost use Rattle.ax_execution.specs.EdgeRows.{row_behind_mark, fires_twice, waking, firing_asks, both_served, both_go_on};
+ghost use Rattle.ax_execution.specs.MachineControls.{control_of_machine, outcome_on};
+ghost use Rattle.ax_execution.specs.Rows.{a, serially, in_parallel, behind, may_run, may_follow, round_a_watermark, mark_comes, mark_behind, idles, reminder, nearly_urgent, crossing};
+ghost use Rattle.ax_execution.specs.EdgeRows.{row_behind_mark, fires_first, fires_twice, waking, firing_asks, both_served, both_go_on};
 
 /// A row waits behind its own key's mark. As the row before both is given up the mark is taken off, since no timer is due, and the row owns
 /// the key.
@@ -55,4 +56,19 @@ pub fn serial_runs_are_parallel_ones()
 pub fn key_that_must_fire_does()
     ensures runs { may_run (in_parallel 1) alarm (mark_behind ++ Fire 2 a ∷ Start a ∷ Send ∷ []) ≡ true }
     ensures writes { (behind alarm (mark_behind ++ Fire 2 a ∷ Start a ∷ Send ∷ [])).written ≡ Out a (pos 1 ∷ pos 1 ∷ []) ∷ Out a (pos 2 ∷ pos 3 ∷ pos 6 ∷ []) ∷ watermark (pos 6) ∷ [] }
+{}
+
+/// The outcome of a callback tells where its key must fire: where a context is given up and a mark that may fire comes to the front. A callback
+/// whose context waits on tells none, nor does one behind which no timer is due, nor an event that is none.
+pub fn outcomes_tell_who_must_fire()
+    ensures start { (outcome 128 alarm (Start a) (behind alarm mark_comes)).fires ≡ Some a }
+    ensures again { (outcome 128 alarm (Start a) (behind alarm fires_first)).fires ≡ Some a }
+    ensures last { (outcome 128 alarm (Start a) (behind alarm (fires_twice ++ Fire 4 a ∷ []))).fires ≡ None }
+    ensures deliver { (outcome 128 reminder (Deliver a 0) (behind reminder nearly_urgent)).fires ≡ Some a }
+    ensures waits { (outcome 128 waking (Start a) (behind waking (idles ++ Fire 2 a ∷ []))).fires ≡ None }
+    ensures fire { (outcome 128 alarm (Fire 2 a) (behind alarm mark_behind)).fires ≡ None }
+    ensures control_start { (outcome_on alarm (Start a) (control_of_machine (behind alarm mark_comes))).fires ≡ Some a }
+    ensures control_last { (outcome_on alarm (Start a) (control_of_machine (behind alarm (fires_twice ++ Fire 4 a ∷ [])))).fires ≡ None }
+    ensures control_deliver { (outcome_on reminder (Deliver a 0) (control_of_machine (behind reminder nearly_urgent))).fires ≡ Some a }
+    ensures control_waits { (outcome_on waking (Start a) (control_of_machine (behind waking (idles ++ Fire 2 a ∷ [])))).fires ≡ None }
 {}

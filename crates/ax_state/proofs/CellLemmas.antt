@@ -35,7 +35,7 @@ pub kinds_of-states : (decls : List Decl) → kinds_of (shown_states decls) ≡ 
 kinds_of-states [] = refl
 kinds_of-states (d ∷ ds) = ap (λ ks. d.kind ∷ ks) (kinds_of-states ds)
 
-kind_of-empty : (k : Kind) → kind_of (empty_cell k) ≡ k
+pub kind_of-empty : (k : Kind) → kind_of (empty_cell k) ≡ k
 kind_of-empty kind.Value = refl
 kind_of-empty kind.List = refl
 kind_of-empty kind.Map = refl

@@ -17,6 +17,7 @@ use Rattle.ax_text.specs.declared.vocabulary.Answer.TheVariants as answer
 use Rattle.ax_text.specs.declared.vocabulary.Request.TheVariants as request
 use Rattle.ax_text.specs.Cells.{Cell, Entries, Cells, found, entry_at, entries_in, pair_of, has_none, items_in, answer_in, answer_of, cells_after, empty_cell, kind_of}
 use Rattle.ax_text.specs.Rising.{IsRising, MapsRise}
+use Rattle.ax_state.proofs.CellLemmas.{kind_of-empty}
 
 at_itself : (k : ℤ) → is_at (int_cmp k) k ≡ true
 at_itself k = ap is_eq (tied_itself int_cmp_total k)
@@ -154,3 +155,6 @@ module _ (cells : Cells) (s : ℕ) where
     of kind.Value = refl
     of kind.List = refl
     of kind.Map = refl
+
+  pub kind_after_clear : kind_of (cells_after (request.Clear s) cells s) ≡ kind_of (cells s)
+  kind_after_clear = rw (same s) (kind_of-empty (kind_of (cells s)))

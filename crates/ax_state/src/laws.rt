@@ -4,7 +4,7 @@ ghost use Rattle.ax_base.specs.declared.lists.Pair.{Pair as AnyPair};
 ghost use Rattle.ax_text.specs.declared.vocabulary.Request.{Request};
 ghost use Rattle.ax_text.specs.declared.vocabulary.Request.TheVariants as request;
 ghost use Rattle.ax_text.specs.declared.vocabulary.Answer.TheVariants as answer;
-ghost use Rattle.ax_text.specs.Cells.{Cells, state_of, items_in, answer_of, cells_after};
+ghost use Rattle.ax_text.specs.Cells.{Cells, state_of, items_in, answer_of, cells_after, kind_of};
 ghost use Rattle.ax_text.specs.Rising.{MapsRise};
 
 /// A request touches the one state that it names.
@@ -43,9 +43,10 @@ pub fn has_and_empty_tell()
     ensures not_empty { (cells : Cells) (s : ℕ) (p : AnyPair) (ps : List AnyPair) → answer_of (request.MapEntries s) cells ≡ answer.Pairs (p ∷ ps) → answer_of (request.MapEmpty s) cells ≡ answer.Flag false }
 {}
 
-/// A state that was cleared holds nothing, whatever its kind.
+/// A state that was cleared holds nothing, whatever its kind, and is of the kind that it was.
 pub fn nothing_after_clear()
     ensures value { (cells : Cells) (s : ℕ) → answer_of (request.ValueGet s) (cells_after (request.Clear s) cells) ≡ answer.Missing }
     ensures items { (cells : Cells) (s : ℕ) → answer_of (request.ListGet s) (cells_after (request.Clear s) cells) ≡ answer.Items [] }
     ensures entries { (cells : Cells) (s : ℕ) → answer_of (request.MapEntries s) (cells_after (request.Clear s) cells) ≡ answer.Pairs [] }
+    ensures kind { (cells : Cells) (s : ℕ) → kind_of (cells_after (request.Clear s) cells s) ≡ kind_of (cells s) }
 {}

@@ -11,6 +11,7 @@ use Rattle.ax_text.specs.Run.{World, run, begun}
 use Rattle.ax_text.specs.Prints.{has, is_accepted}
 use Rattle.ax_text.specs.Controls.{Rest, Control, Turn, Answers, slots, begin, without, give, request_at, left, Going, Event, Serve, Give, started, serve_at, give_at, step, steps, comes_to}
 use Rattle.ax_text.specs.Futures.{going, ComesToRun, EndsAsRun}
+use Rattle.ax_text.specs.Counts.{LeftCounts}
 use Rattle.ax_text.proofs.Keeps.{by_cases, keeps_left}
 use Rattle.ax_text.proofs.Steps.{Blank, BlankBut, Goes, IsStep, IsGiven, after_talk, begin_ok, given, serve_ok, upd_at, upd_off, without_keeps}
 use Rattle.ax_text.proofs.Wakeful.{slot_waits, begin_wakes, give_wakes}
@@ -32,12 +33,12 @@ blank_served c answers n o m h j x = by_cases (nat_eq n j)
     (λ y. upd_off answers n o j y ∙ h j x)
 
 -- of an accepted text
-counts_up : (fs : Facts) (g : Going) → IsUnderway g → g.world.served ≤ (comes_to fs g).served
-counts_up fs g h =
-    let more = (keeps_left fs g.control g.answers everything h.fits).counts g.world g.world (record { names = λ n x. refl; cells = λ m x. refl }) in
-    least more.0 (comes_to fs g).served more.1
+pub left_counts : (fs : Facts) (answers : Answers) (c : Control) (w : World) → LeftCounts fs answers c w
+left_counts fs answers c w h =
+    let more = (keeps_left fs c answers everything h).counts w w (record { names = λ n x. refl; cells = λ m x. refl }) in
+    least more.0 (left fs answers c w).served more.1
   where
-    least : (m x : ℕ) → x ≡ m + g.world.served → g.world.served ≤ x
+    least : (m x : ℕ) → x ≡ m + w.served → w.served ≤ x
     least m x p = omega arith
 
 module _ (fs : Facts) where
@@ -118,7 +119,7 @@ module _ (fs : Facts) where
   pub serves_at : (g : Going) (s : ℕ) (r : Request) → ServesAt fs g s r
   unfolding Kept
   serves_at g s r h e n = subst (ServesOne fs g) (sym at) (record {
-    one = fewer (comes_to fs g).served (comes_to fs next).served (ap (λ (w : World). w.served) kept.1) (counts_up fs next kept.0);
+    one = fewer (comes_to fs g).served (comes_to fs next).served (ap (λ (w : World). w.served) kept.1) (left_counts fs next.answers next.control next.world kept.0.fits);
     same = kept.1;
     control = refl;
     talk = refl;

@@ -43,8 +43,18 @@ takes_low used (a ∷ as') t = (
   low_more (length (used ++ a.slot ∷ []) + length as') (length used + length (a ∷ as')) as' (let e : length (used ++ a.slot ∷ []) ≡ length used + 1 = length-append used (a.slot ∷ []) in omega arith) (takes_low (used ++ a.slot ∷ []) as' t.1),
 )
 
-slots_asked : (it : Turn) → waiting it.control ≡ it.asks → length (slots it.control) ≡ length it.asks
-slots_asked it h = ap (λ (xs : List ℕ). length xs) (slots_waiting it.control) ∙ (length-map (waiting it.control) (λ (a : Asked). a.slot) ∙ ap (λ (xs : List Asked). length xs) h)
+-- as many slots as requests wait
+pub slots_counted : (c : Control) → length (slots c) ≡ length (waiting c)
+slots_counted c = ap (λ (xs : List ℕ). length xs) (slots_waiting c) ∙ length-map (waiting c) (λ (a : Asked). a.slot)
+
+pub slots_asked : (it : Turn) → waiting it.control ≡ it.asks → length (slots it.control) ≡ length it.asks
+slots_asked it h = slots_counted it.control ∙ ap (λ (xs : List Asked). length xs) h
+
+pub replaced_length : (s : ℕ) (bs as' : List Asked) → has s (map (λ (a : Asked). a.slot) as') ≡ true → suc (length (replaced s bs as')) ≡ length bs + length as'
+replaced_length s bs [] h = absurd (both_ways false refl h)
+replaced_length s bs (a ∷ as') h = by_cases (nat_eq s a.slot)
+    (λ e. rw e (let l : length (bs ++ as') ≡ length bs + length as' = length-append bs as' in omega arith))
+    (λ e. rw e (let l : suc (length (replaced s bs as')) ≡ length bs + length as' = replaced_length s bs as' (rw e at h) in omega arith))
 
 module _ (f : Facts) where
   -- with no other wait
@@ -65,20 +75,14 @@ module _ (f : Facts) where
       short [] = omega arith
       short (y ∷ ys) = let l : length (without s ys) < suc (length ys) = short ys in by_cases (nat_eq s y) (λ e. rw e (omega arith)) (λ e. rw e (omega arith))
 
-  replaced_length : (s : ℕ) (bs as' : List Asked) → has s (map (λ (a : Asked). a.slot) as') ≡ true → suc (length (replaced s bs as')) ≡ length bs + length as'
-  replaced_length s bs [] h = absurd (both_ways false refl h)
-  replaced_length s bs (a ∷ as') h = by_cases (nat_eq s a.slot)
-      (λ e. rw e (let l : length (bs ++ as') ≡ length bs + length as' = length-append bs as' in omega arith))
-      (λ e. rw e (let l : suc (length (replaced s bs as')) ≡ length bs + length as' = replaced_length s bs as' (rw e at h) in omega arith))
-
   pub give_low : (n : ℕ) (c : Control) (s : ℕ) (a : Answer) (t : Talk) → Low n (waiting c) → has s (slots c) ≡ true → ControlWide n (give f c s a t).control → Low n (waiting (give f c s a t).control)
   unfolding give
   give_low n c s a t l h w =
       let it : Turn = give f c s a t in
       let asked : waiting it.control ≡ replaced s it.asks (waiting c) = give_asked f c s a t h in
       let b : length (slots it.control) ≤ n = slots_wide n it.control w in
-      let d : length (slots it.control) ≡ length (waiting it.control) = ap (λ (xs : List ℕ). length xs) (slots_waiting it.control) ∙ length-map (waiting it.control) (λ (x : Asked). x.slot) in
-      let d' : length (slots c) ≡ length (waiting c) = ap (λ (xs : List ℕ). length xs) (slots_waiting c) ∙ length-map (waiting c) (λ (x : Asked). x.slot) in
+      let d : length (slots it.control) ≡ length (waiting it.control) = slots_counted it.control in
+      let d' : length (slots c) ≡ length (waiting c) = slots_counted c in
       let e : length (waiting it.control) ≡ length (replaced s it.asks (waiting c)) = ap (λ (xs : List Asked). length xs) asked in
       let r : suc (length (replaced s it.asks (waiting c))) ≡ length it.asks + length (waiting c) = replaced_length s it.asks (waiting c) (sym (ap (has s) (slots_waiting c)) ∙ h) in
       let u : length (without s (slots c)) < length (slots c) = without_less s (slots c) h in

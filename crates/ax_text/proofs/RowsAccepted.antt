@@ -7,19 +7,19 @@ use Rattle.ax_text.specs.Texts.{Text, Stop, Act, Ask, If, Each, Both}
 use Rattle.ax_text.specs.Prints.{Print, quiet_print, asking_print, loop_print, test_print, prints, clash, are_silent, is_apart, are_apart, is_accepted}
 use Rattle.ax_text.specs.Rows.{Row, ActRow, AskRow, IfRow, EachRow, BothRow, SecondRow, EndRow, Level, level, top, below, with_text, levels_of, text_of, Part, Yes', No', Body, One, Two, Lines, part_ok, row_ok, note, new, other, turned_lines, closed_lines, all_ok, IsAccepted}
 
-abbrev Silent : List Print → Type 0
+abbrev pub Silent : List Print → Type 0
 Silent [] = Unit {0}
 Silent (p ∷ ps) = (p.loud ≡ false) × Silent ps
 
-abbrev ApartFrom : List Print → Print → Type 0
+abbrev pub ApartFrom : List Print → Print → Type 0
 ApartFrom [] q = Unit {0}
 ApartFrom (p ∷ ps) q = (clash p q ≡ false) × ApartFrom ps q
 
-abbrev Apart : List Print → List Print → Type 0
+abbrev pub Apart : List Print → List Print → Type 0
 Apart ps [] = Unit {0}
 Apart ps (q ∷ qs) = ApartFrom ps q × Apart ps qs
 
-abbrev Accepted : Text → Type 0
+abbrev pub Accepted : Text → Type 0
 Accepted Stop = Unit {0}
 Accepted (Act q t) = Accepted t
 Accepted (Ask a t) = Accepted t
@@ -28,7 +28,7 @@ Accepted (Each l a t) = Accepted a × Accepted t
 Accepted (Both a b t) = Silent (prints a) × Silent (prints b) × Apart (prints a) (prints b) × Accepted a × Accepted b × Accepted t
 
 -- what a block asks of the lines to come: those of its part, and those of its second part
-abbrev PartGood : Part → List Print → List Print → List Print → List Print → Type 0
+abbrev pub PartGood : Part → List Print → List Print → List Print → List Print → Type 0
 PartGood Yes' first this mine second = Unit {0}
 PartGood No' first this mine second = Unit {0}
 PartGood Body first this mine second = Unit {0}
@@ -36,20 +36,20 @@ PartGood One first this mine second = Silent mine × Silent second × Apart (thi
 PartGood Two first this mine second = Silent mine × Apart first mine
 
 -- inner: the lines to come of the blocks within
-abbrev Good : List Lines → List Level → List Print → Type 0
+abbrev pub Good : List Lines → List Level → List Print → Type 0
 Good [] ls inner = Accepted (top ls).text
 Good (b ∷ bs) ls inner = Accepted (top ls).text × Accepted (top ls).second × PartGood b.part b.first b.this (inner ++ prints (top ls).text) (prints (top ls).second)
     × Good bs (below ls) (inner ++ (prints (top ls).text ++ prints (top ls).second))
 
-and_left : (a b : Bool) → a && b ≡ true → a ≡ true
+pub and_left : (a b : Bool) → a && b ≡ true → a ≡ true
 and_left true b h = refl
 and_left false b h = cc
 
-and_right : (a b : Bool) → a && b ≡ true → b ≡ true
+pub and_right : (a b : Bool) → a && b ≡ true → b ≡ true
 and_right true b h = h
 and_right false b h = cc
 
-not_true : (a : Bool) → not a ≡ true → a ≡ false
+pub not_true : (a : Bool) → not a ≡ true → a ≡ false
 not_true true h = cc
 not_true false h = refl
 
@@ -87,7 +87,7 @@ apart_move : (p : Print) (hs xs qs : List Print) → Apart ((p ∷ hs) ++ xs) qs
 apart_move p hs xs [] s = tt
 apart_move p hs xs (q ∷ qs) s = (from_move p hs xs q s.0, apart_move p hs xs qs s.1)
 
-from_tested : (p : Print) (first : List Print) → is_apart first p ≡ true → ApartFrom first p
+pub from_tested : (p : Print) (first : List Print) → is_apart first p ≡ true → ApartFrom first p
 from_tested p [] h = tt
 from_tested p (f ∷ fs) h = (not_true (clash f p) (and_left (not (clash f p)) (is_apart fs p) h), from_tested p fs (and_right (not (clash f p)) (is_apart fs p) h))
 
@@ -109,7 +109,7 @@ absorb (b ∷ bs) p ls inner h g = (
   absorb bs p (below ls) (inner ++ (prints (top ls).text ++ prints (top ls).second)) (and_right (part_ok b.part p b.first) (row_ok p bs) h) g.3,
 )
 
-top_accepted : (bs : List Lines) (ls : List Level) (inner : List Print) → Good bs ls inner → Accepted (top ls).text
+pub top_accepted : (bs : List Lines) (ls : List Level) (inner : List Print) → Good bs ls inner → Accepted (top ls).text
 top_accepted [] ls inner g = g
 top_accepted (b ∷ bs) ls inner g = g.0
 

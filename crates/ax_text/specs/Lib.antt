@@ -20,3 +20,5 @@ pub mod Sound
 pub mod Silent
 pub mod Underway
 pub mod Rising
+pub mod Counts
+pub mod ValidExamples

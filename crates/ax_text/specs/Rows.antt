@@ -176,3 +176,7 @@ all_ok (EndRow ∷ rs) bs = all_ok rs (closed_lines bs)
 
 abbrev pub IsAccepted : List Row → Type 0
 IsAccepted rows = all_ok rows [] ≡ true → is_accepted (text_of rows) ≡ true
+
+-- and of well-formed lines only those that pass the tests
+abbrev pub IsTested : List Row → Type 0
+IsTested rows = follow rows (wide Body 0 0 ∷ []) ≡ true → is_accepted (text_of rows) ≡ true → all_ok rows [] ≡ true

@@ -9,14 +9,15 @@ ghost use Rattle.ax_text.specs.Texts.{Text};
 ghost use Rattle.ax_text.specs.Programs.{width, untouched};
 ghost use Rattle.ax_text.specs.Run.{Talk, World, run};
 ghost use Rattle.ax_text.specs.Rising.{MapsRise};
-ghost use Rattle.ax_text.specs.Controls.{Ask', Control, Done, least_free, Cursor, Event, Going, slots, waiting, is_done, request_at, give, step};
+ghost use Rattle.ax_text.specs.Controls.{Ask', Answers, Control, Done, least_free, Cursor, Event, Going, slots, waiting, is_done, request_at, give, step};
 ghost use Rattle.ax_text.specs.Prints.{has};
 ghost use Rattle.ax_text.specs.Suits.{Suits, AsksSuit, fits_in};
 ghost use Rattle.ax_text.specs.Sound.{Split, IsWakeful, IsWaiting, BeginsSound, GivesSound};
 ghost use Rattle.ax_text.specs.Silent.{BeginTells, GiveTells, StepsSilently, BeginsAtOnce, ServesAtOnce, ServesMore};
 ghost use Rattle.ax_text.specs.Underway.{ServesAt, GivesAt, StartsUnderway, StepsUnderway, KeepsSlots, TakesLeast, BeginTakesLeast, GiveTakesLeast, IsLeastFree, SlotsRise, ArmsCommute};
+ghost use Rattle.ax_text.specs.Counts.{WaitsBySlot, BeginCounts, GiveCounts, StepCounts, LeftCounts};
 ghost use Rattle.ax_text.specs.Futures.{ComesToRun, EndsAsRun, StaysWithin, AsksAtBegin, AsksAtGive};
-ghost use Rattle.ax_text.specs.Rows.{Row, IsAccepted, follow, widened_by, now_of, text_of, wide, Body};
+ghost use Rattle.ax_text.specs.Rows.{Row, IsAccepted, IsTested, follow, widened_by, now_of, text_of, wide, Body};
 
 /// Whatever the order in which the requests of a handler of an accepted text are served and their answers given, what was done and what is still to be done come together to what its run does.
 #[tactic(auto, using(crate::proofs::Going::comes_to_run))]
@@ -61,6 +62,22 @@ pub fn done_where_nothing_waits()
 pub fn asks_are_what_waits()
     ensures begin { (f : Facts) (k : Cursor) (used : List ℕ) (t : Talk) → AsksAtBegin f k used t }
     ensures give { (f : Facts) (c : Control) (s : ℕ) (a : AnyAnswer) (t : Talk) → AsksAtGive f c s a t }
+{}
+
+/// As many slots as requests wait. Behind a beginning as many wait as it asks, and behind an answer as many as before and as it asks,
+/// but one fewer.
+#[tactic(auto, using(crate::proofs::Asked::slots_waiting, crate::proofs::Counted::begin_counts, crate::proofs::Counted::give_counts))]
+pub fn waits_are_counted()
+    ensures slots { (c : Control) → WaitsBySlot c }
+    ensures begin { (f : Facts) (k : Cursor) (used : List ℕ) (t : Talk) → BeginCounts f k used t }
+    ensures give { (f : Facts) (c : Control) (s : ℕ) (a : AnyAnswer) (t : Talk) → GiveCounts f c s a t }
+{}
+
+/// The count of served requests never falls: not by a serve or an answer, and not over what is left of a control of an accepted text.
+#[tactic(auto, using(crate::proofs::Counted::step_counts, crate::proofs::Going::left_counts))]
+pub fn counts_never_fall()
+    ensures step { (f : Facts) (e : Event) (g : Going) → StepCounts f e g }
+    ensures left { (f : Facts) (answers : Answers) (c : Control) (w : World) → LeftCounts f answers c w }
 {}
 
 /// What was said before makes no difference to a callback: from nothing said it leaves the same, and what it says comes behind. So a program may begin each callback with nothing said.
@@ -128,10 +145,12 @@ pub fn maps_stay_rising()
     ensures step { (f : Facts) (e : Event) (g : Going) → MapsRise g.world.cells → MapsRise (step f e g).world.cells }
 {}
 
-/// Lines of a handler that pass the tests of arms one after another make a text whose arms are silent and apart.
-#[tactic(auto, using(crate::proofs::RowsAccepted::accepted))]
+/// Lines of a handler that pass the tests of arms one after another make a text whose arms are silent and apart, and of lines whose
+/// blocks are well formed only those make one.
+#[tactic(auto, using(crate::proofs::RowsAccepted::accepted, crate::proofs::RowsTested::tested))]
 pub fn tested_lines_are_accepted()
-    ensures { (rows : List Row) → IsAccepted rows }
+    ensures accepted { (rows : List Row) → IsAccepted rows }
+    ensures tested { (rows : List Row) → IsTested rows }
 {}
 
 /// What is counted line by line is the width of the text.

@@ -3,6 +3,7 @@
 //! The definitions stand in `specs/`. Beside them stand the few plain types that they share with the code.
 #![tactic(auto)]
 
+pub mod examples;
 pub mod laws;
 pub mod vocabulary;
 

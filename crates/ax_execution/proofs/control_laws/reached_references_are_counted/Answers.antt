@@ -1,7 +1,7 @@
 use Rattle.std.proofs.Common.{◌≡◌, Some, subst}
 use Rattle.ax_execution.specs.Contexts.{Running, Begun, Context}
 use Rattle.ax_execution.specs.ControlOrder.{IsSoundRunning, StageIsSound, OwnerIsSound}
-use Rattle.ax_execution.proofs.References.{distinct_slots}
+use Rattle.ax_text.proofs.Slots.{split_differ}
 use Rattle.ax_execution.proofs.ControlReferences.{owner_has, none_referred_on, none_numbered_on, gone_unreferred_on, unreferred_gone_on}
 use Rattle.ax_execution.proofs.ReachedOrderly.{reached_orderly, reached_in_order, reached_sound}
 use Rattle.ax_execution.proofs.control_laws.reached_references_are_counted.Goals as goal
@@ -11,7 +11,7 @@ sound_here x running a e = subst StageIsSound e a
 
 pub returns-clause-slots : goal.returns-clause-slots
 returns-clause-slots c r p m k x running accepted reached owner stage =
-    distinct_slots running.control (sound_here x running (subst OwnerIsSound owner (reached_sound r p m accepted reached k)) stage).split
+    split_differ running.control (sound_here x running (subst OwnerIsSound owner (reached_sound r p m accepted reached k)) stage).split
 
 pub returns-clause-referred : goal.returns-clause-referred
 returns-clause-referred c r p m k x accepted reached e = owner_has r p accepted m (reached_in_order r p m accepted reached) (reached_sound r p m accepted reached) k x e

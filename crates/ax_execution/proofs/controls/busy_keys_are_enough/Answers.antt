@@ -1,12 +1,10 @@
 use Rattle.ax_execution.specs.ControlTurns.{contexts_on}
-use Rattle.ax_execution.specs.Machine.{machine_of, taken}
 use Rattle.ax_execution.specs.MachineControls.{control_of_epoch, control_numbered, control_references}
-use Rattle.ax_execution.proofs.Alone.{goes_as_alone}
-use Rattle.ax_execution.proofs.Handlers.{Good, handles}
-use Rattle.ax_execution.proofs.Orderly.{always_orderly, keys_rise}
 use Rattle.ax_execution.proofs.ControlSums.{busy_total}
 use Rattle.ax_execution.proofs.ControlCounts.{free_contexts, free_numbered, free_references}
 use Rattle.ax_execution.proofs.ControlChanges.{free_epoch, keys_hold}
+use Rattle.ax_execution.specs.Runs.{end_of}
+use Rattle.ax_execution.proofs.WholeRuns.{run_orderly, run_rises}
 use Rattle.ax_execution.proofs.controls.busy_keys_are_enough.Goals as goal
 
 pub returns-clause-flight : goal.returns-clause-flight
@@ -22,5 +20,4 @@ pub returns-clause-references : goal.returns-clause-references
 returns-clause-references c n ks m a b = busy_total (control_references n) (free_references n) m ks m.keys a b
 
 pub returns-clause-keys : goal.returns-clause-keys
-returns-clause-keys c r g p from es accepted fits run = keys_hold r (machine_of g p from es) (always_orderly g p Good (handles p accepted) from fits r es run)
-    (keys_rise g p Good (handles p accepted) from fits (machine_of g p from es) (taken es) (goes_as_alone g p Good (handles p accepted) from fits r es run))
+returns-clause-keys c run = keys_hold run.rules (end_of run) (run_orderly run) (run_rises run)

@@ -1,14 +1,14 @@
 use Rattle.ax_execution.proofs.Handlers.{Good, handles}
-use Rattle.ax_execution.proofs.Orderly.{always_orderly}
-use Rattle.ax_execution.specs.Machine.{machine_of}
 use Rattle.ax_execution.proofs.RunTests.{allowed_is, allowed_so, is_run, run_passes}
+use Rattle.ax_execution.specs.Runs.{end_of}
+use Rattle.ax_execution.proofs.WholeRuns.{run_orderly}
 use Rattle.ax_execution.proofs.laws.allowed_is_decided.Goals as goal
 
 pub returns-clause-passes : goal.returns-clause-passes
 returns-clause-passes c r m e h = allowed_so r m e h
 
 pub returns-clause-is_so : goal.returns-clause-is_so
-returns-clause-is_so c r g p from es e accepted fits h = allowed_is r (machine_of g p from es) (always_orderly g p Good (handles p accepted) from fits r es h) e
+returns-clause-is_so c run e = allowed_is run.rules (end_of run) (run_orderly run) e
 
 pub returns-clause-run : goal.returns-clause-run
 returns-clause-run c r g p from es accepted fits h = is_run g p Good (handles p accepted) from fits r es h

@@ -5,7 +5,7 @@ use Rattle.ax_execution.proofs.RestWork.{rest_work}
 use Rattle.ax_execution.proofs.laws.work_falls.Goals as goal
 
 pub returns-clause-falls : goal.returns-clause-falls
-returns-clause-falls c r g p from es e accepted fits run i h = falls.work_falls p Good (handles p accepted) g from fits r es run e i h
+returns-clause-falls c run e i h = falls.work_falls run.program Good (handles run.program run.accepted) run.groups run.from run.origin run.rules run.events run.allowed e i h
 
 pub returns-clause-silent : goal.returns-clause-silent
 returns-clause-silent c p part accepted = silent_work p Good (handles p accepted) part

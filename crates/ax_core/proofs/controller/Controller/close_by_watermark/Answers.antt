@@ -1,4 +1,4 @@
-use Rattle.std.proofs.Common.{◌↔◌, ◌<ℤ◌, ℤ, w64, to_z, of_z, length, List, sym, ap, ◌∙◌, subst, arith}
+use Rattle.std.proofs.Common.{◌↔◌, ◌<ℤ◌, ℤ, w64, to_z, of_z, length, List, refl, sym, ap, ◌∙◌, subst, arith}
 use Rattle.std.proofs.lemmas.Int.{to_z-of_z}
 use Rattle.std.specs.List.{Contains}
 use Rattle.ax_text.specs.Times.{HasDue}
@@ -10,6 +10,7 @@ use Rattle.ax_core.specs.Closings.{MarksAll, books, every}
 use Rattle.ax_core.specs.Sound.{IsSound}
 use Rattle.ax_core.specs.Events.{Makes}
 use Rattle.ax_core.proofs.ClosedBy.{with_mark, few_count, mark_closes, mark_sound}
+use Rattle.ax_core.proofs.Orders.{posts_none}
 use Rattle.ax_core.proofs.controller.Controller.close_by_watermark.Goals as goal
 
 pub mark_all-requires : goal.mark_all-requires
@@ -51,3 +52,6 @@ returns-clause-event c = λ m h.
     (books c.mark_all.new.accounts c.mark_all.new.epochs) (books c.mark_free.new.accounts c.mark_free.new.epochs)
     (subst (λ (ks : List Key). MarksAll every (to_z w64 (of_z w64 c.args.time)) ks (books c.args.self.now.accounts c.args.self.now.epochs) (books c.mark_all.new.accounts c.mark_all.new.epochs)) (c.as_slice-3.ensures ∙ c.in_ok-busy.ensures.keys) c.in_ok-mark_all.ensures.marks)
     c.in_ok-mark_free.ensures.marks (subst Fits64 c.in_ok-close.ensures.ok c.sizes_law-2.ensures) m h))
+
+pub returns-clause-order : goal.returns-clause-order
+returns-clause-order c = posts_none c.args.self.now (with_mark c.args.self.now (to_z w64 (of_z w64 c.args.time)) c.mark_free.new.accounts c.close.new.self) c.requires.sound.flow refl refl refl

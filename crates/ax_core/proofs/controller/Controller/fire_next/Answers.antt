@@ -3,6 +3,8 @@ use Rattle.ax_lang.specs.Shown.{shown_program}
 use Rattle.ax_account.specs.Queues.{first_of}
 use Rattle.ax_execution.specs.Accepted.{AreAccepted}
 use Rattle.ax_core.proofs.FiresStand.{mail_left, not_owned, mark_left, timer_there, fires_next, sound_next, same_next}
+use Rattle.ax_core.proofs.KeysStay.{keys_made}
+use Rattle.ax_core.proofs.Orders.{posts_fires}
 use Rattle.ax_core.proofs.controller.Controller.fire_next.Goals as goal
 
 pub fire-requires-clause-owner : goal.fire-requires-clause-owner
@@ -45,3 +47,9 @@ returns-clause-event c =
     let accepted : AreAccepted (shown_program c.args.self.now.program) = record { row = c.program_is_accepted.ensures.row c.args.self.now.program; timer = c.program_is_accepted.ensures.timer c.args.self.now.program } in
     let first : first_of c.args.self.now.accounts.idle ≡ Some c.in_ok-key.key = sym c.in-Some.ensures.value ∙ sym (ap Some c.in_ok-key.ensures) in
     fires_next c.args.self.now c.requires.sound accepted c.requires.may c.first_idle.ensures.sound c.in_ok-key.key first c.fire.new.self c.in_ok-fired.fired c.in_ok-fired.ensures
+
+pub returns-clause-keys : goal.returns-clause-keys
+returns-clause-keys c = keys_made c.args.self.now c.fire.new.self c.in_ok-fired.ensures.id c.requires.sound.flow c.in_ok-fired.ensures.free c.in_ok-fired.ensures.others
+
+pub returns-clause-order : goal.returns-clause-order
+returns-clause-order c = posts_fires c.args.self.now c.fire.new.self c.in_ok-key.key c.in_ok-fired.fired c.requires.sound.flow c.in_ok-fired.ensures

@@ -43,4 +43,5 @@ returns c =
     ∙ (ap (λ (ns : List Name). remove_range ns c.place_of-place.result (c.place_of-place.result + c.len.result)) held
     ∙ ap (λ (n : ℕ). remove_range (out_of a c.requires.out.shard) c.place_of-place.result (c.place_of-place.result + n)) c.len.ensures) in
     let b : Controller = record c.args.self.now { outs = with_item c.args.self.now.outs c.shard_of-shard.result c.take_out.new.out } in
-    forgotten a c.requires.sound.flow c.args.r.now c.requires.out x (drop 1 c.args.r.now) e (out_of a c.requires.out.shard) c.place_of-place.result refl found b c.shard_of-shard.result c.take_out.new.out refl there left refl
+    forgotten a c.requires.sound.flow c.args.r.now c.requires.out x (drop 1 c.args.r.now) e c.place_of-place.result found b c.shard_of-shard.result c.take_out.new.out refl
+    (λ o. c.shard_of-shard.ensures.value ∙ first_shard a c.requires.sound.flow c.args.r.now o x (drop 1 c.args.r.now) e c.get.result.now c.get.ensures) left refl

@@ -1,0 +1,143 @@
+//! A controller in the hand of a test.
+ghost use Rattle.std.specs.Prelude.{◌≡◌, IfOk, OnOk, true};
+ghost use Rattle.ax_core.specs.Sound.{InRange};
+ghost use Rattle.ax_core_tests.specs.Hands.{IsReady};
+
+use crate::states::{States, no_states, serve};
+use ax_base::{NoMemory, Nums};
+use ax_buffer::Replies;
+use ax_core::{Controller, Effects, Fired, Marker, Settings};
+use ax_keys::Key;
+use ax_lang::Program;
+use std::alloc::Global;
+use std::mem;
+
+/// A controller, the states of its keys, and for each shard the replies to the batch that is out.
+#[derive(Drop)]
+pub struct Hand {
+    pub alloc: Global,
+    pub core: Controller,
+    pub states: States,
+    pub served: Vec<Replies>,
+}
+
+impl Hand {
+    /// A new controller.
+    pub fn new(alloc: Global, program: Program, settings: Settings) -> Result<Hand, NoMemory>
+        requires { InRange settings }
+        ensures { IfOk result IsReady }
+    {
+        let states = no_states(alloc, &program)?;
+        let core = Controller::new(alloc, program, settings)?;
+        let mut served = Vec::new(alloc);
+        for _shard in 0..settings.shards {
+            let Ok(()) = served.push(Replies::new(alloc)) else {
+                return Err(NoMemory);
+            };
+        }
+        Ok(Hand {
+            alloc,
+            core,
+            states,
+            served,
+        })
+    }
+
+    /// Admits a row where one may come in.
+    pub fn admit(&mut self, key: Key, time: i64, values: Nums) -> Result<Option<u64>, NoMemory>
+        requires { IsReady self.old }
+        ensures { OnOk result (IsReady self.new) }
+    {
+        if self.core.may_admit() {
+            let number = self.core.admit(key, time, values)?;
+            Ok(Some(number))
+        } else {
+            Ok(None)
+        }
+    }
+
+    /// Closes the epoch where that may be.
+    pub fn close(&mut self, m: Marker) -> Result<bool, NoMemory>
+        requires { IsReady self.old }
+        ensures { OnOk result (IsReady self.new) }
+    {
+        let next = match m {
+            Marker::Mark { time } => time > self.core.wm(),
+            Marker::Barrier { .. } => true,
+        };
+        if next && self.core.may_close() {
+            self.core.close(m)?;
+            Ok(true)
+        } else {
+            Ok(false)
+        }
+    }
+
+    /// Fires where a key may.
+    pub fn fire(&mut self) -> Result<Option<Fired>, NoMemory>
+        requires { IsReady self.old }
+        ensures { OnOk result (IsReady self.new) }
+    {
+        if self.core.may_fire() {
+            let fired = self.core.fire_next()?;
+            Ok(Some(fired))
+        } else {
+            Ok(None)
+        }
+    }
+
+    /// Runs a mail where one waits.
+    pub fn mail(&mut self) -> Result<Option<Effects>, NoMemory>
+        requires { IsReady self.old }
+        ensures { OnOk result (IsReady self.new) }
+    {
+        if self.core.mail_waits() {
+            let effects = self.core.run_mail()?;
+            Ok(Some(effects))
+        } else {
+            Ok(None)
+        }
+    }
+
+    /// The marker that can be sent.
+    pub fn marker(&mut self) -> Option<Marker>
+        requires { IsReady self.old }
+        ensures { IsReady self.new }
+    {
+        self.core.next_marker()
+    }
+
+    /// Takes a batch of a shard that is home, and serves it; how many requests it has.
+    pub fn batch(&mut self, shard: u16, max: u32) -> Result<usize, NoMemory>
+        requires { IsReady self.old }
+        ensures { OnOk result (IsReady self.new) }
+    {
+        let at = shard as usize;
+        if at >= self.served.len() || max == 0 {
+            return Ok(0);
+        }
+        if !self.served[at].is_empty() || self.core.active_len(shard) == 0 {
+            return Ok(0);
+        }
+        let batch = self.core.batch_for(shard, max)?;
+        let replies = serve(self.alloc, self.core.program(), &mut self.states, batch)?;
+        let count = replies.len();
+        self.served[at] = replies;
+        Ok(count)
+    }
+
+    /// Delivers the replies of a shard; how many.
+    pub fn deliver(&mut self, shard: u16) -> usize
+        requires { IsReady self.old }
+        ensures { IsReady self.new }
+    {
+        let at = shard as usize;
+        if at >= self.served.len() {
+            return 0;
+        }
+        let replies = mem::replace(&mut self.served[at], Replies::new(self.alloc));
+        let count = replies.len();
+        self.core.deliver(replies);
+        count
+    }
+}

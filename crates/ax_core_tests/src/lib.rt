@@ -1,0 +1,9 @@
+//! Tests of the controller: driven by hand, with batches that are answered in any order.
+#![tactic(auto)]
+
+#[cfg(test)]
+mod by_hand;
+pub mod hand;
+#[cfg(test)]
+mod programs;
+pub mod states;
