@@ -28,7 +28,7 @@ use Rattle.ax_core.specs.declared.record.Name.{Name}
 use Rattle.ax_core.specs.declared.controller.Controller.{Controller}
 use Rattle.ax_core.specs.Flow.{shard_of, out_of}
 use Rattle.ax_core.specs.Sound.{rules_of, StandsFor}
-use Rattle.ax_core.specs.Events.{SameRules, OwnerAsks, Asks, AsksAll, names_in, names_of, key_in, serves, ServesAll}
+use Rattle.ax_core.specs.Events.{SameRules, KeysStay, OwnerAsks, Asks, AsksAll, names_in, names_of, key_in, serves, ServesAll}
 use Rattle.ax_core.proofs.Sends.{accepted}
 use Rattle.ax_task.specs.Serving.{Content, replies_to, content_with, content_after}
 use Rattle.ax_task.specs.Refined.{Reaches, Refines}
@@ -57,7 +57,7 @@ first_in i is = (0, omega arith, refl)
 later_in : (i : Item) (is : List Item) (j : Item) → Contains is j → Contains (i ∷ is) j
 later_in i is j h = (suc h.0, omega (arith, h.1), h.2)
 
-all_of : (P : Item → Type 0) (is : List Item) → ((i : Item) → Contains is i → P i) → AllByRecursion P is
+pub all_of : (P : Item → Type 0) (is : List Item) → ((i : Item) → Contains is i → P i) → AllByRecursion P is
 all_of P [] h = tt
 all_of P (i ∷ is) h = (h i (first_in i is), all_of P is (λ j x. h j (later_in i is j x)))
 
@@ -88,7 +88,7 @@ module _ (out out' : ℕ → List Item) (shard : ℕ) (batch : List Item) (now :
       ]
 
 module _ (s : Settings) (p : Program) (a b : Controller) (content : Content) (out : ℕ → List Item) (read : List Event) (written : List Entry) (x : Refines s p a content out read written)
-    (same : SameRules a b) (stay : (shard : ℕ) (n : Name) → Contains (out_of a shard) n → key_in (at b.contexts n.id) ≡ key_in (at a.contexts n.id)) (shard : ℕ) (inside : shard < length a.outs.items) where
+    (same : SameRules a b) (stay : KeysStay a b) (shard : ℕ) (inside : shard < length a.outs.items) where
   abbrev c : MachineControl
   c = control_of_machine x.machine
 

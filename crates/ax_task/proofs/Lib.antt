@@ -17,3 +17,4 @@ pub mod Blocks
 pub mod Knowing
 pub mod Working
 pub mod Falling
+pub mod Exchanges

@@ -33,7 +33,7 @@ use Rattle.ax_core.specs.declared.record.Name.{Name}
 use Rattle.ax_core.specs.declared.controller.Controller.{Controller}
 use Rattle.ax_core.specs.Flow.{shard_of, out_of}
 use Rattle.ax_core.specs.Sound.{rules_of, StandsFor}
-use Rattle.ax_core.specs.Events.{SameRules, Makes, OwnerAsks, Asks, names_in, key_in}
+use Rattle.ax_core.specs.Events.{SameRules, KeysStay, Makes, OwnerAsks, Asks, names_in, key_in}
 use Rattle.ax_core.proofs.Sends.{accepted}
 use Rattle.ax_task.specs.Serving.{Content}
 use Rattle.ax_task.specs.Refined.{Reaches, Refines}
@@ -132,7 +132,7 @@ AllAsk a out c = (shard : ℕ) (i : Item) → Contains (out shard) i → Asks a 
 pub record Leaves (a b : Controller) : Type 0 where
   pub same : SameRules a b
   pub outs : b.outs ≡ a.outs
-  pub keys : (shard : ℕ) (n : Name) → Contains (out_of a shard) n → key_in (at b.contexts n.id) ≡ key_in (at a.contexts n.id)
+  pub keys : KeysStay a b
 
 module _ (s : Settings) (p : Program) (a : Controller) (out : ℕ → List Item) where
   -- one event that serves nothing
@@ -146,7 +146,7 @@ module _ (s : Settings) (p : Program) (a : Controller) (out : ℕ → List Item)
 
 module _ (s : Settings) (p : Program) (a b : Controller) (content : Content) (out : ℕ → List Item) (read : List Event) (written : List Entry) (x : Refines s p a content out read written) where
   -- what is out is of the keys that it was of
-  pub key_stays : ((shard : ℕ) (n : Name) → Contains (out_of a shard) n → key_in (at b.contexts n.id) ≡ key_in (at a.contexts n.id)) → (shard : ℕ) (i : Item) → Contains (out shard) i → key_in (at b.contexts i.id) ≡ i.key
+  pub key_stays : KeysStay a b → (shard : ℕ) (i : Item) → Contains (out shard) i → key_in (at b.contexts i.id) ≡ i.key
   key_stays stay shard i h =
       stay shard (record { id = i.id; slot = i.slot }) (subst (λ (ns : List Name). Contains ns (record { id = i.id; slot = i.slot })) (sym (x.names shard)) (name_out (out shard) i h))
       ∙ x.keys shard i h
