@@ -1,13 +1,12 @@
 -- A batch is taken from the controller and sent to a shard, and what the shard answered is delivered.
-use Rattle.std.proofs.Common.{◌≡◌, ◌≢◌, ◌<◌, ℕ, zero, suc, List, [], ◌∷◌, ◌++◌, length, get_or, set, Bool, true, false, nat_eq, Ok, refl, sym, ap, ap₂, ◌∙◌, subst, append-nil, arith}
-use Rattle.std.proofs.lemmas.Bool.{cond-true, cond-false, eq-eqb}
+use Rattle.std.proofs.Common.{◌≡◌, ◌≢◌, ◌<◌, ℕ, zero, suc, List, [], ◌∷◌, ◌++◌, length, get_or, set, Ok, refl, sym, ap, ap₂, ◌∙◌, subst, append-nil, arith}
+use Rattle.std.proofs.lemmas.Bool.{cond-true, cond-false}
 use Rattle.std.specs.Str.{bytes_eq}
 use Rattle.std.specs.List.{Contains, AllByRecursion}
 use Rattle.ax_text.specs.Functions.{upd}
 use Rattle.ax_text.specs.Cells.{Cells, answer_of, cells_after}
 use Rattle.ax_machine.specs.Entries.{Key, Entry}
 use Rattle.ax_machine.specs.Events.{Event}
-use Rattle.ax_machine.proofs.FiringLemmas.{key_is}
 use Rattle.ax_lang.specs.declared.program.Program.{Program}
 use Rattle.ax_buffer.specs.declared.items.Item.{Item}
 use Rattle.ax_buffer.specs.declared.items.Reply.{Reply}
@@ -15,13 +14,12 @@ use Rattle.ax_context.specs.Slots.{at}
 use Rattle.ax_execution.specs.MachineControls.{MachineControl, control_of_machine}
 use Rattle.ax_execution.proofs.Upto.{by_cases}
 use Rattle.ax_core.specs.declared.settings.Settings.{Settings}
-use Rattle.ax_core.specs.declared.record.Name.{Name}
 use Rattle.ax_core.specs.declared.controller.Controller.{Controller}
 use Rattle.ax_core.specs.Flow.{shard_of, out_of}
 use Rattle.ax_core.specs.Sound.{StandsFor, IsSound}
 use Rattle.ax_core.specs.Events.{SameRules, KeysStay, OfKeys, AsksAll, IsBatchOut, ServesAll, names_in, names_of, key_in}
 use Rattle.ax_core.specs.Batches.{OthersOut}
-use Rattle.ax_task.specs.Serving.{Content, reply_to, content_with, replies_to, content_after}
+use Rattle.ax_task.specs.Serving.{Content, content_with, replies_to, content_after}
 use Rattle.ax_task.specs.Shards.{Came}
 use Rattle.ax_task.specs.Refined.{content_over, Refines}
 use Rattle.ax_task.specs.Work.{left_to_do}

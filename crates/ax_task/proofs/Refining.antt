@@ -1,24 +1,21 @@
 -- The machine goes on by events, and the controller stands for what they leave.
-use Rattle.std.proofs.Common.{◌≡◌, ◌<◌, ℕ, ℤ, int_lt, List, [], ◌∷◌, ◌++◌, map, length, get_or, Option, Some, None, refl, sym, ap, ap₂, ◌∙◌, subst, append_assoc, false}
-use Rattle.std.proofs.lemmas.Bool.{cond-false}
-use Rattle.std.proofs.lemmas.List.{append-nil, get_or-map, length-map}
+use Rattle.std.proofs.Common.{◌≡◌, ◌<◌, ℕ, List, [], ◌∷◌, ◌++◌, get_or, Option, None, refl, sym, ap, ap₂, ◌∙◌, subst}
+use Rattle.std.proofs.lemmas.List.{get_or-map, length-map}
 use Rattle.std.specs.List.{Contains}
 use Rattle.ax_text.specs.declared.vocabulary.Answer.{Answer}
 use Rattle.ax_text.specs.Programs.{Program as AnyProgram}
-use Rattle.ax_machine.specs.Entries.{Key, Watermark, Entry, says}
-use Rattle.ax_machine.specs.Entries as entry
+use Rattle.ax_machine.specs.Entries.{Key, Entry, says}
 use Rattle.ax_machine.specs.Events.{Event}
 use Rattle.ax_machine.specs.Events as event
-use Rattle.ax_machine.specs.Sync.{Plain, plain_steps, plain_start, sync, all_fired, at_watermark, writes}
+use Rattle.ax_machine.specs.Sync.{plain_steps, plain_start, sync}
 use Rattle.ax_machine.proofs.StepLemmas.{steps_append}
 use Rattle.ax_lang.specs.declared.program.Program.{Program}
 use Rattle.ax_lang.specs.Shown.{shown_program}
 use Rattle.ax_buffer.specs.declared.items.Item.{Item}
 use Rattle.ax_context.specs.Slots.{at}
-use Rattle.ax_execution.specs.Accepted.{AreAccepted}
 use Rattle.ax_execution.specs.Origins.{first}
-use Rattle.ax_execution.specs.Machine.{ByWatermark, ByBarrier, Machine, Happening, Admit, Close, Fire, Start, Serve, Deliver, Send, Rules, happens, outcome, after_all, taken, machine_from, machine_of}
-use Rattle.ax_execution.specs.Allowed.{Allowed, IsRun}
+use Rattle.ax_execution.specs.Machine.{ByWatermark, ByBarrier, Machine, Happening, Admit, Close, Fire, Start, Serve, Deliver, Send, Rules, happens, outcome, after_all, taken, machine_from}
+use Rattle.ax_execution.specs.Allowed.{IsRun}
 use Rattle.ax_execution.specs.MachineControls.{MachineControl, control_of_machine, happens_on, answer_of_event}
 use Rattle.ax_execution.specs.ControlsAllowed.{AllowedOn, IsAnswered}
 use Rattle.ax_execution.specs.Reached.{IsReached}
@@ -31,7 +28,7 @@ use Rattle.ax_execution.proofs.ReachedLemmas.{machine_reached}
 use Rattle.ax_core.specs.declared.settings.Settings.{Settings}
 use Rattle.ax_core.specs.declared.record.Name.{Name}
 use Rattle.ax_core.specs.declared.controller.Controller.{Controller}
-use Rattle.ax_core.specs.Flow.{shard_of, out_of}
+use Rattle.ax_core.specs.Flow.{shard_of}
 use Rattle.ax_core.specs.Sound.{rules_of, StandsFor}
 use Rattle.ax_core.specs.Events.{SameRules, KeysStay, Makes, OwnerAsks, Asks, names_in, key_in}
 use Rattle.ax_core.proofs.Sends.{accepted}
