@@ -49,5 +49,4 @@ pub mod CalledFlow
 pub mod CallFlows
 pub mod MailRuns
 pub mod Orders
-pub mod CallOrder
 pub mod BatchFits

@@ -11,8 +11,7 @@ ghost use Rattle.ax_execution.specs.MachineControls.{MachineControl};
 ghost use Rattle.ax_core.specs.declared.effects.Ran.TheVariants as ran;
 ghost use Rattle.ax_core.specs.May.{has_mail};
 ghost use Rattle.ax_core.specs.Sound.{StandsFor, IsSound};
-ghost use Rattle.ax_core.specs.Events.{SameRules, KeysStay, Runs};
-ghost use Rattle.ax_core.specs.Order.{RunsFirst};
+ghost use Rattle.ax_core.specs.Events.{SameRules, Runs};
 ghost use Rattle.ax_core.specs.Callbacks.{Begins, WaitsAt, ResumedAt, HasBegun, HasResumed, item_for, items_for, IsHeld, IsQueued, ending, behind_marks, ended, all_left, AllMayLeave, OthersIdle, row_epochs, with_start, waits_next, HandsOver, GoesOn};
 ghost use Rattle.ax_core.specs.Calls.{CallEnds, IsReady, MayStart, MayReply, Started, Replied};
 
@@ -52,8 +51,6 @@ impl Controller {
         ensures same { OnOk result (SameRules self.old self.new) }
         ensures outs { OnOk result (self.new.outs ≡ self.old.outs) }
         ensures event { IfOk result (λ f. (m : MachineControl) → StandsFor self.old m → Runs self.old self.new f m) }
-        ensures keys { OnOk result (KeysStay self.old self.new) }
-        ensures order { IfOk result (λ f. (m : MachineControl) → StandsFor self.old m → RunsFirst self.old self.new f m) }
     {
         program_is_accepted();
         sizes_law(&self.epochs);

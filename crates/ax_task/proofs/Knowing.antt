@@ -15,7 +15,7 @@ use Rattle.ax_buffer.specs.declared.items.Item.{Item}
 use Rattle.ax_execution.specs.Machine.{IsAtRest}
 use Rattle.ax_core.specs.declared.settings.Settings.{Settings}
 use Rattle.ax_core.specs.declared.controller.Controller.{Controller}
-use Rattle.ax_plain.proofs.RunLemmas.{AppendsSome-behind}
+use Rattle.ax_task.proofs.Written.{AppendsSome-behind}
 use Rattle.ax_task.specs.Parse.{Stream, Ending, Clean, Fault, with_event, ends}
 use Rattle.ax_task.specs.Clause.{Holds, WritesLawful, WritesPart, StreamEnds}
 use Rattle.ax_task.specs.Reads.{NextOf, end_in_stream}

@@ -18,3 +18,8 @@ pub mod Knowing
 pub mod Working
 pub mod Falling
 pub mod Exchanges
+pub mod Written
+pub mod EngineLemmas
+pub mod BatchLemmas
+pub mod SoundLemmas
+pub mod TaskLemmas

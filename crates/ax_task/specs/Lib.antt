@@ -9,3 +9,5 @@ pub mod Shards
 pub mod Refined
 pub mod Known
 pub mod Work
+pub mod Engines
+pub mod Tasks
