@@ -23,3 +23,4 @@ pub mod EngineLemmas
 pub mod BatchLemmas
 pub mod SoundLemmas
 pub mod TaskLemmas
+pub mod ReadingLemmas

@@ -4,12 +4,12 @@
 //! own parts.
 #![tactic(auto)]
 
-mod batches;
 mod block;
 mod cells;
 pub mod config;
 mod end;
 mod engine;
+mod exchange;
 pub mod laws;
 mod line;
 mod read_fault;
