@@ -1,4 +1,5 @@
-//! Tests of the crates that keep something and hand it on: states, timers, epochs, contexts, accounts, buffer, mailbox, run store.
+//! Tests of the crates that keep something and hand it on: states, timers, epochs, contexts, accounts, buffer, mailbox, run store, and of
+//! the keys of its cells.
 //! Each is driven from outside, beside a plain list or map.
 #![tactic(auto)]
 
@@ -6,6 +7,8 @@
 mod accounts;
 #[cfg(test)]
 mod buffers;
+#[cfg(test)]
+mod cell_keys;
 #[cfg(test)]
 mod cells;
 #[cfg(test)]

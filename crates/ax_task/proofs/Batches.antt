@@ -1,5 +1,5 @@
 -- A batch goes out, and comes back served.
-use Rattle.std.proofs.Common.{◌≡◌, ◌≢◌, ◌⊎◌, ◌<◌, ℕ, zero, suc, ◌+◌, List, [], ◌∷◌, ◌++◌, length, get_or, set, Bool, true, false, cond, nat_eq, refl, sym, ap, ap₂, ◌∙◌, subst, eqb-true, arith, append-nil, inl, inr}
+use Rattle.std.proofs.Common.{◌≡◌, ◌≢◌, ◌⊎◌, ◌<◌, ℕ, zero, suc, ◌+◌, List, [], ◌∷◌, ◌++◌, length, get_or, set, true, false, nat_eq, refl, sym, ap, ◌∙◌, subst, eqb-true, arith, append-nil, inl, inr}
 use Rattle.std.proofs.lemmas.Bool.{cond-true, cond-false, eq-eqb}
 use Rattle.std.specs.Str.{bytes_eq}
 use Rattle.std.specs.List.{Contains, AllByRecursion}
@@ -20,7 +20,7 @@ use Rattle.ax_execution.specs.KeyControls.{control_of}
 use Rattle.ax_execution.specs.Machine.{Machine, Happening, after_all, taken, work}
 use Rattle.ax_execution.specs.Allowed.{IsRun}
 use Rattle.ax_execution.specs.MachineControls.{MachineControl, control_of_machine}
-use Rattle.ax_execution.specs.ControlsAllowed.{Answered, IsRunOn, after_all_on, with_answers}
+use Rattle.ax_execution.specs.ControlsAllowed.{Answered, IsRunOn, after_all_on}
 use Rattle.ax_execution.proofs.Upto.{by_cases}
 use Rattle.ax_execution.proofs.ControlsAllowed.{run_from, all_control}
 use Rattle.ax_core.specs.declared.settings.Settings.{Settings}
@@ -28,14 +28,14 @@ use Rattle.ax_core.specs.declared.record.Name.{Name}
 use Rattle.ax_core.specs.declared.controller.Controller.{Controller}
 use Rattle.ax_core.specs.Flow.{shard_of, out_of}
 use Rattle.ax_core.specs.Sound.{rules_of, StandsFor}
-use Rattle.ax_core.specs.Events.{SameRules, OwnerAsks, Asks, AsksAll, names_in, names_of, key_in, serves, ServesAll}
+use Rattle.ax_core.specs.Events.{SameRules, KeysStay, OwnerAsks, Asks, AsksAll, names_in, names_of, key_in, serves, ServesAll}
 use Rattle.ax_core.proofs.Sends.{accepted}
 use Rattle.ax_task.specs.Serving.{Content, replies_to, content_with, content_after}
 use Rattle.ax_task.specs.Refined.{Reaches, Refines}
 use Rattle.ax_task.specs.Work.{work_in, left_to_do}
 use Rattle.ax_task.proofs.Falling.{work_now, falls_served, less_left}
 use Rattle.ax_task.proofs.KeptAsks.{asks_waits}
-use Rattle.ax_task.proofs.Served.{serve_events, none_taken, Holds, IsOf, IsServedBy, serve_batch, serves_write_nothing, others_stay}
+use Rattle.ax_task.proofs.Served.{serve_events, none_taken, IsOf, IsServedBy, serve_batch, serves_write_nothing, others_stay}
 use Rattle.ax_task.proofs.Refining.{reached_by, reaches_on, key_stays}
 
 true_false : true ≡ false → ⊥
@@ -57,7 +57,7 @@ first_in i is = (0, omega arith, refl)
 later_in : (i : Item) (is : List Item) (j : Item) → Contains is j → Contains (i ∷ is) j
 later_in i is j h = (suc h.0, omega (arith, h.1), h.2)
 
-all_of : (P : Item → Type 0) (is : List Item) → ((i : Item) → Contains is i → P i) → AllByRecursion P is
+pub all_of : (P : Item → Type 0) (is : List Item) → ((i : Item) → Contains is i → P i) → AllByRecursion P is
 all_of P [] h = tt
 all_of P (i ∷ is) h = (h i (first_in i is), all_of P is (λ j x. h j (later_in i is j x)))
 
@@ -83,12 +83,12 @@ module _ (out out' : ℕ → List Item) (shard : ℕ) (batch : List Item) (now :
       of : ((t ≡ shard) × (get_or (set a.outs.items shard (names_in batch)) t [] ≡ names_in batch)) ⊎ ((t ≢ shard) × (get_or (set a.outs.items shard (names_in batch)) t [] ≡ get_or a.outs.items t []))
           → get_or (set a.outs.items shard (names_in batch)) t [] ≡ names_in (out' t)
       of h = elim h [
-        inl h ↦ h.1 ∙ ap names_in (sym (out_here t (eq-eqb shard t (sym h.0))))
+        | inl h ↦ h.1 ∙ ap names_in (sym (out_here t (eq-eqb shard t (sym h.0))))
         | inr h ↦ h.1 ∙ (names t ∙ ap names_in (sym (out_there t (by_cases (nat_eq shard t) (λ x. absurd (h.0 (sym (eqb-true shard t x)))) (λ x. x)))))
       ]
 
 module _ (s : Settings) (p : Program) (a b : Controller) (content : Content) (out : ℕ → List Item) (read : List Event) (written : List Entry) (x : Refines s p a content out read written)
-    (same : SameRules a b) (stay : (shard : ℕ) (n : Name) → Contains (out_of a shard) n → key_in (at b.contexts n.id) ≡ key_in (at a.contexts n.id)) (shard : ℕ) (inside : shard < length a.outs.items) where
+    (same : SameRules a b) (stay : KeysStay a b) (shard : ℕ) (inside : shard < length a.outs.items) where
   abbrev c : MachineControl
   c = control_of_machine x.machine
 
@@ -187,8 +187,8 @@ module _ (s : Settings) (p : Program) (a b : Controller) (content : Content) (ou
     unfolding m
     back_falls some = less_left a b content content' (control_of_machine m) same stands
         (let now : work_in b content' ≡ work (shown_program p) (after_all s.groups (shown_program p) (serve_events (out shard)) x.machine) =
-            work_now s p b content' (after_all s.groups (shown_program p) (serve_events (out shard)) x.machine) (same.program ∙ x.program) stands (λ k. by.holds k ∙ sym (behind k)) in
+        work_now s p b content' (after_all s.groups (shown_program p) (serve_events (out shard)) x.machine) (same.program ∙ x.program) stands (λ k. by.holds k ∙ sym (behind k)) in
         let was : work_in a content ≡ work (shown_program p) x.machine = work_now s p a content x.machine x.program x.stands x.reaches.states in
         let served : work (shown_program p) (after_all s.groups (shown_program p) (serve_events (out shard)) x.machine) + length (out shard) ≡ work (shown_program p) x.machine =
-            falls_served s p content read written x.machine x.reaches (out shard) run in
+        falls_served s p content read written x.machine x.reaches (out shard) run in
         omega arith)

@@ -1,5 +1,5 @@
 -- The block of a barrier: the lines of each key are those of what the shards hold and of its timers.
-use Rattle.std.proofs.Common.{◌≡◌, ◌⊎◌, ℕ, ℤ, List, [], ◌∷◌, ◌++◌, Bool, true, false, cond, ◌||◌, Option, Some, None, refl, sym, ap, ap₂, ◌∙◌, subst, inl, inr}
+use Rattle.std.proofs.Common.{◌≡◌, ℕ, ℤ, List, [], ◌∷◌, ◌++◌, Bool, true, false, cond, ◌||◌, Option, Some, None, refl, sym, ap, ap₂, ◌∙◌, subst, inr}
 use Rattle.std.proofs.lemmas.Bool.{cond-true, cond-false, both_ways}
 use Rattle.std.specs.Str.{bytes_eq}
 use Rattle.std.specs.List.{list_any}
@@ -9,7 +9,6 @@ use Rattle.ax_text.specs.Cells.{Cells}
 use Rattle.ax_text.specs.KeyStates.{KeyState, fresh}
 use Rattle.ax_text.specs.Programs.{Program as AnyProgram, State, kinds_of, untouched}
 use Rattle.ax_machine.specs.Entries.{Key, Block, Entry}
-use Rattle.ax_machine.specs.Entries as entry
 use Rattle.ax_machine.specs.Events.{Event}
 use Rattle.ax_machine.specs.OutLines.{OutLine}
 use Rattle.ax_machine.specs.Blocks.{Part, part_lines, lines_from, lines_among, block_text}
@@ -17,14 +16,14 @@ use Rattle.ax_machine.specs.Sync.{Map, parts_of}
 use Rattle.ax_machine.proofs.BlockLemmas.{same_block, fresh_lines}
 use Rattle.ax_machine.proofs.FiringLemmas.{key_is, same_key, has_inserted}
 use Rattle.ax_lang.specs.declared.program.Program.{Program}
-use Rattle.ax_lang.specs.Shown.{shown_program, shown_kinds}
+use Rattle.ax_lang.specs.Shown.{shown_program}
 use Rattle.ax_buffer.specs.declared.items.Item.{Item}
 use Rattle.ax_time.specs.Timers.{times_of}
 use Rattle.ax_execution.specs.Accepted.{AreAccepted}
 use Rattle.ax_execution.specs.Contexts.{Context}
 use Rattle.ax_execution.specs.Origins.{first}
 use Rattle.ax_execution.specs.Rest.{silent}
-use Rattle.ax_execution.specs.Machine.{Closing, ByWatermark, ByBarrier, Closed, Machine, Happening, Admit, Close, Fire, Start, Serve, Deliver, Send, Rules, send_first, happens, after_all, machine_from, marker_of}
+use Rattle.ax_execution.specs.Machine.{ByWatermark, ByBarrier, Closed, Machine, Happening, Admit, Close, Fire, Start, Serve, Deliver, Send, Rules, send_first, happens, after_all, machine_from, marker_of}
 use Rattle.ax_execution.specs.Allowed.{StageAsks, OfOwner, Allowed, IsRun}
 use Rattle.ax_execution.specs.MachineControls.{control_of_machine}
 use Rattle.ax_execution.specs.Reached.{IsUntouched}

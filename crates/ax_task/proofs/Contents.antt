@@ -1,42 +1,25 @@
 -- What the shards hold: at the start, and behind a batch.
-use Rattle.std.proofs.Common.{◌≡◌, ◌≢◌, ℕ, List, [], ◌∷◌, Bool, true, false, nat_eq, Option, Some, None, refl, sym, ap, ap₂, ◌∙◌, subst, eqb-true, ◌<◌, arith}
+use Rattle.std.proofs.Common.{◌≡◌, ◌≢◌, ℕ, List, [], ◌∷◌, true, false, nat_eq, refl, sym, ap, ◌∙◌, subst, eqb-true, arith}
 use Rattle.std.proofs.lemmas.Bool.{cond-true, cond-false, eq-eqb}
-use Rattle.std.proofs.lemmas.List.Elements.{All-from_recursion}
 use Rattle.std.specs.Str.{bytes_eq}
 use Rattle.std.specs.List.{Contains, AllByRecursion}
-use Rattle.ax_text.specs.declared.vocabulary.Request.{Request}
-use Rattle.ax_text.specs.Cells.{Cells, cells_after}
-use Rattle.ax_text.specs.Controls.{Control, request_at}
-use Rattle.ax_text.specs.Programs.{kinds_of, untouched}
-use Rattle.ax_text.specs.Suits.{fits_in}
-use Rattle.ax_text.proofs.Suiting.{request_suits}
-use Rattle.ax_machine.specs.Entries.{Key, Entry}
-use Rattle.ax_machine.specs.Events.{Event}
+use Rattle.ax_text.specs.Cells.{cells_after}
+use Rattle.ax_text.specs.Programs.{untouched}
+use Rattle.ax_machine.specs.Entries.{Key}
 use Rattle.ax_machine.proofs.FiringLemmas.{key_is}
 use Rattle.ax_lang.specs.declared.program.Program.{Program}
 use Rattle.ax_lang.specs.Shown.{shown_program, shown_kinds}
-use Rattle.ax_future.specs.declared.machine.Machine.{Machine as CodeMachine}
 use Rattle.ax_buffer.specs.declared.items.Item.{Item}
-use Rattle.ax_context.specs.declared.id.Id.{Id}
-use Rattle.ax_context.specs.declared.contexts.Context.{Context as Held}
-use Rattle.ax_context.specs.Slots.{Slots, at}
-use Rattle.ax_mailbox.specs.declared.mail.Mail.{Mail}
-use Rattle.ax_account.specs.Accounts.{part_of}
-use Rattle.ax_execution.specs.Contexts.{Running, Stage, Unbegun, Begun, Context}
 use Rattle.ax_execution.specs.Origins.{first}
 use Rattle.ax_execution.specs.Machine.{machine_from}
-use Rattle.ax_execution.specs.MachineControls.{MachineControl, at_origin}
+use Rattle.ax_execution.specs.MachineControls.{at_origin}
 use Rattle.ax_execution.proofs.Upto.{by_cases}
 use Rattle.ax_core.specs.declared.settings.Settings.{Settings}
-use Rattle.ax_core.specs.declared.record.Record.{Record}
-use Rattle.ax_core.specs.declared.record.Name.{Name}
 use Rattle.ax_core.specs.declared.controller.Controller.{Controller}
-use Rattle.ax_core.specs.Contexts.{IsRunning, StageStands, IsContext, ContextStands}
-use Rattle.ax_core.specs.Keys.{OwnerStands}
 use Rattle.ax_core.specs.Flow.{shard_of, out_of}
 use Rattle.ax_core.specs.Sound.{StandsFor}
-use Rattle.ax_core.specs.Events.{StageAsksIt, OwnerAsks, Asks, AsksAll, names_in}
-use Rattle.ax_task.specs.Serving.{Content, content_with, content_after, AllFit}
+use Rattle.ax_core.specs.Events.{names_in}
+use Rattle.ax_task.specs.Serving.{Content, content_with, content_after}
 use Rattle.ax_task.specs.Refined.{content_over, Refines}
 
 true_false : true ≡ false → ⊥

@@ -12,7 +12,7 @@ use Rattle.ax_buffer.specs.Buffer.{total}
 use Rattle.ax_buffer.proofs.ListLemmas.{total-set}
 use Rattle.ax_time.specs.declared.epoch.Marker.{Marker}
 use Rattle.ax_execution.specs.Origins.{first}
-use Rattle.ax_execution.specs.Machine.{Machine, Happening, Fire, Start, Serve, Deliver, Send, Rules, happens, after_all, machine_from, outcome, taken, work, IsWork}
+use Rattle.ax_execution.specs.Machine.{Machine, Happening, Fire, Serve, Send, happens, after_all, machine_from, outcome, taken, work, IsWork}
 use Rattle.ax_execution.specs.Allowed.{Allowed, IsRun}
 use Rattle.ax_execution.specs.MachineControls.{MachineControl, control_of_machine, happens_on, in_flight_on, work_on}
 use Rattle.ax_execution.specs.ControlsAllowed.{AllowedOn, IsAnswered}
@@ -24,7 +24,6 @@ use Rattle.ax_execution.proofs.Handlers.{Good, handles}
 use Rattle.ax_execution.proofs.Projected.{first_fits}
 use Rattle.ax_execution.proofs.ReachedOrderly.{reached_orderly}
 use Rattle.ax_core.specs.declared.settings.Settings.{Settings}
-use Rattle.ax_core.specs.declared.record.Name.{Name}
 use Rattle.ax_core.specs.declared.controller.Controller.{Controller}
 use Rattle.ax_core.specs.Flow.{out_of}
 use Rattle.ax_core.specs.Sound.{rules_of, StandsFor}
@@ -71,8 +70,8 @@ module _ (s : Settings) (p : Program) where
       let next : after_all s.groups q (es ++ e ∷ []) from ≡ happens s.groups q e m = after_append s.groups q es (e ∷ []) from in
       let one : suc (work q (happens s.groups q e m)) ≡ work q m = falls_at es run e tt h.0 in
       let rest : work q (after_all s.groups q (serve_events is) (happens s.groups q e m)) + length is ≡ work q (happens s.groups q e m) =
-          subst (λ (n : Machine). work q (after_all s.groups q (serve_events is) n) + length is ≡ work q n) next
-          (serves_fall is (es ++ e ∷ []) (run_append (rules_of s) s.groups q es (e ∷ []) from run (h.0, tt)) (subst (IsRun (rules_of s) s.groups q (serve_events is)) (sym next) h.1)) in
+      subst (λ (n : Machine). work q (after_all s.groups q (serve_events is) n) + length is ≡ work q n) next
+      (serves_fall is (es ++ e ∷ []) (run_append (rules_of s) s.groups q es (e ∷ []) from run (h.0, tt)) (subst (IsRun (rules_of s) s.groups q (serve_events is)) (sym next) h.1)) in
       omega arith
 
   pub falls_served : (content : Content) (read : List Event) (written : List Entry) (m : Machine) → Reaches s q content read written m → (is : List Item) → IsRun (rules_of s) s.groups q (serve_events is) m
@@ -121,7 +120,7 @@ module _ (a b : Controller) (content : Content) (c : MachineControl) (same : Sam
   fewer : on_hand b < on_hand a
   fewer =
       let one : total length (set a.outs.items shard (out_of a shard ++ names_in batch)) + length (out_of a shard) ≡ total length a.outs.items + length (out_of a shard ++ names_in batch) =
-          total-set length a.outs.items shard (out_of a shard ++ names_in batch) [] inside in
+      total-set length a.outs.items shard (out_of a shard ++ names_in batch) [] inside in
       let two : length (out_of a shard ++ names_in batch) ≡ length (out_of a shard) + length (names_in batch) = length-append (out_of a shard) (names_in batch) in
       let three : length (names_in batch) ≡ length batch = length-map batch (λ (i : Item). record { id = i.id; slot = i.slot }) in
       let four : total length b.outs.items ≡ total length (set a.outs.items shard (out_of a shard ++ names_in batch)) = ap (total length) outs in
@@ -194,7 +193,7 @@ module _ (s : Settings) (p : Program) (a b : Controller) (content : Content) (ou
       of None y = less_left a b content content (happens_on (shown_program a.program) (event_of f.key f.ran) None c) same y
           (let first : suc (work (shown_program p) (happens s.groups (shown_program p) (event_of f.key f.ran) x.machine)) ≡ work (shown_program p) x.machine = one in
           let now : work_in b content ≡ work (shown_program p) (happens s.groups (shown_program p) (event_of f.key f.ran) x.machine) =
-              work_behind x.machine (event_of f.key f.ran) (callback_serves f.key f.ran) x.reaches.states (of_old (event_of f.key f.ran) c y) in
+          work_behind x.machine (event_of f.key f.ran) (callback_serves f.key f.ran) x.reaches.states (of_old (event_of f.key f.ran) c y) in
           let was : work_in a content ≡ work (shown_program p) x.machine = before in
           omega arith)
       of (Some t) y =
@@ -203,8 +202,8 @@ module _ (s : Settings) (p : Program) (a b : Controller) (content : Content) (ou
           less_left a b content content (happens_on (shown_program a.program) (Fire t.context t.key) None (control_of_machine mid)) same z.made.stands
           (let first : suc (work (shown_program p) mid) ≡ work (shown_program p) x.machine = one in
           let second : suc (work (shown_program p) (happens s.groups (shown_program p) (Fire t.context t.key) mid)) ≡ work (shown_program p) mid =
-              falls_one s p content _ _ mid reaches (Fire t.context t.key) tt (allows (Fire t.context t.key) (control_of_machine mid) z.made.allowed) in
+          falls_one s p content _ _ mid reaches (Fire t.context t.key) tt (allows (Fire t.context t.key) (control_of_machine mid) z.made.allowed) in
           let now : work_in b content ≡ work (shown_program p) (happens s.groups (shown_program p) (Fire t.context t.key) mid) =
-              work_behind mid (Fire t.context t.key) tt reaches.states (of_old (Fire t.context t.key) (control_of_machine mid) z.made.stands) in
+          work_behind mid (Fire t.context t.key) tt reaches.states (of_old (Fire t.context t.key) (control_of_machine mid) z.made.stands) in
           let was : work_in a content ≡ work (shown_program p) x.machine = before in
           omega arith)

@@ -1,6 +1,6 @@
 -- A request that is asked and not served stays so, until it is served.
 use Rattle.std.proofs.Common.{◌≡◌, ℕ, zero, suc, ℤ, int_le, List, [], ◌∷◌, ◌++◌, map, Bool, true, false, cond, ◌||◌, nat_eq, Option, Some, None, refl, sym, ap, ap₂, ◌∙◌, subst, eqb-true}
-use Rattle.std.proofs.lemmas.Bool.{cond-true, cond-false, both_ways, eq-eqb}
+use Rattle.std.proofs.lemmas.Bool.{cond-true, cond-false, eq-eqb}
 use Rattle.std.specs.Str.{bytes_eq}
 use Rattle.ax_text.specs.declared.vocabulary.Request.{Request}
 use Rattle.ax_text.specs.declared.vocabulary.Answer.{Answer}
@@ -9,12 +9,12 @@ use Rattle.ax_text.specs.Exprs.{Facts}
 use Rattle.ax_text.specs.Prints.{has}
 use Rattle.ax_text.specs.Programs.{Program}
 use Rattle.ax_text.specs.Jobs.{firing_job}
-use Rattle.ax_text.specs.Controls.{Control, Done, Wait, Arms, Ask' as Asked, Turn, Answers, slots, waiting, replaced, without, is_done, request_at}
+use Rattle.ax_text.specs.Controls.{Control, Done, Wait, Arms, Ask' as Asked, Turn, Answers, slots, waiting, replaced, is_done, request_at}
 use Rattle.ax_text.proofs.Asked.{slots_waiting}
 use Rattle.ax_text.proofs.Steps.{without_keeps}
 use Rattle.ax_machine.specs.Entries.{Key}
 use Rattle.ax_machine.specs.Firings.{most_firings}
-use Rattle.ax_machine.proofs.FiringLemmas.{key_is, same_key}
+use Rattle.ax_machine.proofs.FiringLemmas.{key_is}
 use Rattle.ax_buffer.specs.declared.items.Item.{Item}
 use Rattle.ax_execution.specs.Accepted.{AreAccepted}
 use Rattle.ax_execution.specs.Groups.{row_facts}
@@ -82,8 +82,8 @@ replaced_keeps s n asks [] q d o e = absurd (cc e)
 replaced_keeps s n asks (x ∷ xs) q d o e = by_cases (nat_eq s x.slot)
     (λ y.
     let other : nat_eq n x.slot ≡ false = by_cases (nat_eq n x.slot)
-        (λ z. absurd (true_false (sym (eq-eqb s n (eqb-true s x.slot y ∙ sym (eqb-true n x.slot z))) ∙ d)))
-        (λ z. z) in
+    (λ z. absurd (true_false (sym (eq-eqb s n (eqb-true s x.slot y ∙ sym (eqb-true n x.slot z))) ∙ d)))
+    (λ z. z) in
     ap (λ (ys : List Asked). asked_at ys n) (cond-true (nat_eq s x.slot) (asks ++ xs) (x ∷ replaced s asks xs) y)
     ∙ (at_append asks xs n ∙ (cond-false (has n (slots_of asks)) (asked_at asks n) (asked_at xs n) o
     ∙ (sym (cond-false (nat_eq n x.slot) (Some x.request) (asked_at xs n) other) ∙ e))))
@@ -274,10 +274,10 @@ module _ (r : Rules) (p : Program) (accepted : AreAccepted p) (m : MachineContro
       let other : nat_eq s i.slot ≡ false = other_slot s at_here.1 in
       let asks : List Asked = (outcome_on p (Deliver j s) m).asks in
       let outside : AreOutside (slots_beside s (owner_waits (m.controls i.key).owner)) asks =
-          subst (λ (k : Key). AreOutside (slots_beside s (owner_waits (m.controls i.key).owner)) (outcome_on p (Deliver k s) m).asks) (sym same)
-          (outside_on r p m (reached_in_order r p m accepted reached) (reached_sound r p m accepted reached) i.key s at_here) in
+      subst (λ (k : Key). AreOutside (slots_beside s (owner_waits (m.controls i.key).owner)) (outcome_on p (Deliver k s) m).asks) (sym same)
+      (outside_on r p m (reached_in_order r p m accepted reached) (reached_sound r p m accepted reached) i.key s at_here) in
       let among : has i.slot (slots_beside s (owner_waits (m.controls i.key).owner)) ≡ true =
-          without_keeps s (slots_of (owner_waits (m.controls i.key).owner)) i.slot (asked_has (owner_waits (m.controls i.key).owner) i.slot i.request waited) other in
+      without_keeps s (slots_of (owner_waits (m.controls i.key).owner)) i.slot (asked_has (owner_waits (m.controls i.key).owner) i.slot i.request waited) other in
       ap (λ (xs : List Asked). asked_at xs i.slot) (cond-true (bytes_eq j i.key) (replaced s asks (owner_waits (m.controls i.key).owner)) (owner_waits (m.controls i.key).owner) x)
       ∙ replaced_keeps s i.slot asks (owner_waits (m.controls i.key).owner) i.request other (not_among _ i.slot asks among outside) waited)
       (λ x.

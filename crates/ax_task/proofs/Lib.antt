@@ -17,8 +17,10 @@ pub mod Blocks
 pub mod Knowing
 pub mod Working
 pub mod Falling
+pub mod Exchanges
 pub mod Written
 pub mod EngineLemmas
 pub mod BatchLemmas
 pub mod SoundLemmas
 pub mod TaskLemmas
+pub mod ReadingLemmas

@@ -1,24 +1,21 @@
 -- The machine goes on by events, and the controller stands for what they leave.
-use Rattle.std.proofs.Common.{◌≡◌, ◌<◌, ℕ, ℤ, int_lt, List, [], ◌∷◌, ◌++◌, map, length, get_or, Option, Some, None, refl, sym, ap, ap₂, ◌∙◌, subst, append_assoc, false}
-use Rattle.std.proofs.lemmas.Bool.{cond-false}
-use Rattle.std.proofs.lemmas.List.{append-nil, get_or-map, length-map}
+use Rattle.std.proofs.Common.{◌≡◌, ◌<◌, ℕ, List, [], ◌∷◌, ◌++◌, get_or, Option, None, refl, sym, ap, ap₂, ◌∙◌, subst}
+use Rattle.std.proofs.lemmas.List.{get_or-map, length-map}
 use Rattle.std.specs.List.{Contains}
 use Rattle.ax_text.specs.declared.vocabulary.Answer.{Answer}
 use Rattle.ax_text.specs.Programs.{Program as AnyProgram}
-use Rattle.ax_machine.specs.Entries.{Key, Watermark, Entry, says}
-use Rattle.ax_machine.specs.Entries as entry
+use Rattle.ax_machine.specs.Entries.{Key, Entry, says}
 use Rattle.ax_machine.specs.Events.{Event}
 use Rattle.ax_machine.specs.Events as event
-use Rattle.ax_machine.specs.Sync.{Plain, plain_steps, plain_start, sync, all_fired, at_watermark, writes}
+use Rattle.ax_machine.specs.Sync.{plain_steps, plain_start, sync}
 use Rattle.ax_machine.proofs.StepLemmas.{steps_append}
 use Rattle.ax_lang.specs.declared.program.Program.{Program}
 use Rattle.ax_lang.specs.Shown.{shown_program}
 use Rattle.ax_buffer.specs.declared.items.Item.{Item}
 use Rattle.ax_context.specs.Slots.{at}
-use Rattle.ax_execution.specs.Accepted.{AreAccepted}
 use Rattle.ax_execution.specs.Origins.{first}
-use Rattle.ax_execution.specs.Machine.{ByWatermark, ByBarrier, Machine, Happening, Admit, Close, Fire, Start, Serve, Deliver, Send, Rules, happens, outcome, after_all, taken, machine_from, machine_of}
-use Rattle.ax_execution.specs.Allowed.{Allowed, IsRun}
+use Rattle.ax_execution.specs.Machine.{ByWatermark, ByBarrier, Machine, Happening, Admit, Close, Fire, Start, Serve, Deliver, Send, Rules, happens, outcome, after_all, taken, machine_from}
+use Rattle.ax_execution.specs.Allowed.{IsRun}
 use Rattle.ax_execution.specs.MachineControls.{MachineControl, control_of_machine, happens_on, answer_of_event}
 use Rattle.ax_execution.specs.ControlsAllowed.{AllowedOn, IsAnswered}
 use Rattle.ax_execution.specs.Reached.{IsReached}
@@ -31,9 +28,9 @@ use Rattle.ax_execution.proofs.ReachedLemmas.{machine_reached}
 use Rattle.ax_core.specs.declared.settings.Settings.{Settings}
 use Rattle.ax_core.specs.declared.record.Name.{Name}
 use Rattle.ax_core.specs.declared.controller.Controller.{Controller}
-use Rattle.ax_core.specs.Flow.{shard_of, out_of}
+use Rattle.ax_core.specs.Flow.{shard_of}
 use Rattle.ax_core.specs.Sound.{rules_of, StandsFor}
-use Rattle.ax_core.specs.Events.{SameRules, Makes, OwnerAsks, Asks, names_in, key_in}
+use Rattle.ax_core.specs.Events.{SameRules, KeysStay, Makes, OwnerAsks, Asks, names_in, key_in}
 use Rattle.ax_core.proofs.Sends.{accepted}
 use Rattle.ax_task.specs.Serving.{Content}
 use Rattle.ax_task.specs.Refined.{Reaches, Refines}
@@ -132,7 +129,7 @@ AllAsk a out c = (shard : ℕ) (i : Item) → Contains (out shard) i → Asks a 
 pub record Leaves (a b : Controller) : Type 0 where
   pub same : SameRules a b
   pub outs : b.outs ≡ a.outs
-  pub keys : (shard : ℕ) (n : Name) → Contains (out_of a shard) n → key_in (at b.contexts n.id) ≡ key_in (at a.contexts n.id)
+  pub keys : KeysStay a b
 
 module _ (s : Settings) (p : Program) (a : Controller) (out : ℕ → List Item) where
   -- one event that serves nothing
@@ -146,7 +143,7 @@ module _ (s : Settings) (p : Program) (a : Controller) (out : ℕ → List Item)
 
 module _ (s : Settings) (p : Program) (a b : Controller) (content : Content) (out : ℕ → List Item) (read : List Event) (written : List Entry) (x : Refines s p a content out read written) where
   -- what is out is of the keys that it was of
-  pub key_stays : ((shard : ℕ) (n : Name) → Contains (out_of a shard) n → key_in (at b.contexts n.id) ≡ key_in (at a.contexts n.id)) → (shard : ℕ) (i : Item) → Contains (out shard) i → key_in (at b.contexts i.id) ≡ i.key
+  pub key_stays : KeysStay a b → (shard : ℕ) (i : Item) → Contains (out shard) i → key_in (at b.contexts i.id) ≡ i.key
   key_stays stay shard i h =
       stay shard (record { id = i.id; slot = i.slot }) (subst (λ (ns : List Name). Contains ns (record { id = i.id; slot = i.slot })) (sym (x.names shard)) (name_out (out shard) i h))
       ∙ x.keys shard i h

@@ -1,8 +1,7 @@
 -- What was written may have been written so far, and where nothing is left to do it is whole.
-use Rattle.std.proofs.Common.{◌≡◌, ℕ, ◌+◌, ◌≤◌, ◌<◌, List, [], ◌∷◌, Bool, true, false, Option, Some, None, refl, sym, ap, ap₂, ◌∙◌, subst, arith}
+use Rattle.std.proofs.Common.{◌≡◌, ℕ, ◌+◌, ◌≤◌, ◌<◌, List, [], ◌∷◌, true, false, Option, Some, None, refl, sym, ap, ap₂, ◌∙◌, subst, arith}
 use Rattle.std.specs.Str.{bytes_eq}
 use Rattle.std.specs.List.{list_any}
-use Rattle.ax_text.specs.Programs.{Program as AnyProgram}
 use Rattle.ax_machine.specs.Entries.{Key, Entry}
 use Rattle.ax_machine.specs.Events.{Event}
 use Rattle.ax_machine.specs.Sync.{Plain, sync}

@@ -1,5 +1,5 @@
 -- A batch that is served: the events of its replies are those of the machine, with the answers that the states of keys give.
-use Rattle.std.proofs.Common.{◌≡◌, ℕ, List, [], ◌∷◌, ◌++◌, false, Option, Some, None, refl, sym, ap, ap₂, ◌∙◌, subst}
+use Rattle.std.proofs.Common.{◌≡◌, ℕ, List, [], ◌∷◌, false, Option, Some, None, refl, sym, ap, ap₂, ◌∙◌, subst}
 use Rattle.std.proofs.lemmas.Bool.{cond-true, cond-false}
 use Rattle.std.proofs.lemmas.List.{append-nil}
 use Rattle.std.specs.Str.{bytes_eq}
@@ -8,12 +8,10 @@ use Rattle.ax_text.specs.declared.vocabulary.Request.{Request}
 use Rattle.ax_text.specs.declared.vocabulary.Answer.{Answer}
 use Rattle.ax_text.specs.Cells.{Cells, answer_of, cells_after}
 use Rattle.ax_text.specs.Programs.{Program as AnyProgram}
-use Rattle.ax_text.specs.Controls.{Ask' as Asked, request_at}
-use Rattle.ax_machine.specs.Entries.{Key, Entry}
-use Rattle.ax_machine.specs.Events.{Event}
+use Rattle.ax_text.specs.Controls.{Ask' as Asked}
+use Rattle.ax_machine.specs.Entries.{Key}
 use Rattle.ax_machine.proofs.FiringLemmas.{key_is}
 use Rattle.ax_buffer.specs.declared.items.Item.{Item}
-use Rattle.ax_buffer.specs.declared.items.Reply.{Reply}
 use Rattle.ax_context.specs.Slots.{at}
 use Rattle.ax_execution.specs.Accepted.{AreAccepted}
 use Rattle.ax_execution.specs.Asks.{stage_waits, owner_waits}
@@ -26,14 +24,14 @@ use Rattle.ax_execution.specs.MachineControls.{MachineControl, control_of_machin
 use Rattle.ax_execution.specs.ControlsAllowed.{AllowedOn, Answered, IsRunOn, with_answers}
 use Rattle.ax_execution.specs.Reached.{IsReached}
 use Rattle.ax_execution.proofs.Upto.{by_cases}
-use Rattle.ax_execution.proofs.CellsKept.{only_serve, serve_applies}
+use Rattle.ax_execution.proofs.CellsKept.{serve_applies}
 use Rattle.ax_execution.proofs.ControlWaits.{waits_on}
 use Rattle.ax_execution.proofs.EventControls.{event_control}
 use Rattle.ax_execution.proofs.ReachedLemmas.{event_reached}
 use Rattle.ax_execution.proofs.ReachedOrderly.{reached_in_order, reached_sound}
 use Rattle.ax_core.specs.declared.controller.Controller.{Controller}
 use Rattle.ax_core.specs.Events.{key_in, serves}
-use Rattle.ax_task.specs.Serving.{Content, reply_to, content_with, replies_to, content_after}
+use Rattle.ax_task.specs.Serving.{Content, content_with, replies_to, content_after}
 use Rattle.ax_task.proofs.KeptAsks.{asked_at, WaitsFor, who_waits}
 
 -- the events of a batch
@@ -84,7 +82,7 @@ module _ (g : ℕ) (p : AnyProgram) (i : Item) (m : Machine) (content : Content)
   holds_behind k = by_cases (bytes_eq i.key k)
       (λ x.
       let own : ((happens g p (Serve i.key i.slot) m).parts i.key).said.state.cells ≡ cells_after i.request (m.parts i.key).said.state.cells =
-          serve_applies g p m i.key i.slot who.context who.running i.request who.owner who.begun who.asked in
+      serve_applies g p m i.key i.slot who.context who.running i.request who.owner who.begun who.asked in
       let own_now : ((happens g p (Serve i.key i.slot) m).parts i.key).said.state.cells ≡ cells_after i.request (content i.key) = own ∙ ap (cells_after i.request) (holds i.key) in
       subst (λ (j : Key). ((happens g p (Serve i.key i.slot) m).parts j).said.state.cells ≡ cells_after i.request (content i.key)) (key_is i.key k x) own_now
       ∙ sym (cond-true (bytes_eq i.key k) (cells_after i.request (content i.key)) (content k) x))
@@ -111,20 +109,20 @@ module _ (g : ℕ) (p : AnyProgram) (accepted : AreAccepted p) (a : Controller) 
       let answer : Answer = answer_of i.request (content i.key) in
       let next : Machine = happens g p (Serve i.key i.slot) m in
       let path : control_of_machine next ≡ happens_on p (Serve i.key i.slot) (Some answer) c =
-          event_control g p (Serve i.key i.slot) m ∙ ap (λ (o : Option Answer). happens_on p (Serve i.key i.slot) o c) (answer_is g p i m content holds all.0.waits) in
+      event_control g p (Serve i.key i.slot) m ∙ ap (λ (o : Option Answer). happens_on p (Serve i.key i.slot) o c) (answer_is g p i m content holds all.0.waits) in
       let allowed : AllowedOn r (Serve i.key i.slot) c = subst (λ (k : Key). AllowedOn r (Serve k i.slot) c) all.0.key run.0 in
       let reached_next : IsReached r p (control_of_machine next) = subst (IsReached r p) (sym path) (event_reached r p (Serve i.key i.slot) (Some answer) c reached allowed (answer, refl)) in
       let run_next : IsRunOn r p (serves a (replies_to is (content_with i content))) (control_of_machine next) =
-          subst (IsRunOn r p (serves a (replies_to is (content_with i content)))) (ap (λ (k : Key). happens_on p (Serve k i.slot) (Some answer) c) all.0.key ∙ sym path) run.2 in
+      subst (IsRunOn r p (serves a (replies_to is (content_with i content)))) (ap (λ (k : Key). happens_on p (Serve k i.slot) (Some answer) c) all.0.key ∙ sym path) run.2 in
       let still : (j : Item) → IsOf a c j → IsOf a (control_of_machine next) j =
-          λ (j : Item) (x : IsOf a c j). record {
-            key = x.key;
-            waits = ap (λ (xs : List Asked). asked_at xs j.slot)
-                (ap (λ (d : MachineControl). owner_waits (d.controls j.key).owner) path ∙ waits_on r p c (reached_in_order r p c accepted reached) (reached_sound r p c accepted reached) (Serve i.key i.slot) (Some answer) j.key allowed)
-                ∙ x.waits;
-          } in
+      λ (j : Item) (x : IsOf a c j). record {
+        key = x.key;
+        waits = ap (λ (xs : List Asked). asked_at xs j.slot)
+            (ap (λ (d : MachineControl). owner_waits (d.controls j.key).owner) path ∙ waits_on r p c (reached_in_order r p c accepted reached) (reached_sound r p c accepted reached) (Serve i.key i.slot) (Some answer) j.key allowed)
+            ∙ x.waits;
+      } in
       let rest : IsServedBy g p a is next (content_with i content) =
-          serve_batch is next (content_with i content) (holds_behind g p i m content holds all.0.waits) reached_next (weaker (IsOf a c) (IsOf a (control_of_machine next)) is still all.1) run_next in
+      serve_batch is next (content_with i content) (holds_behind g p i m content holds all.0.waits) reached_next (weaker (IsOf a c) (IsOf a (control_of_machine next)) is still all.1) run_next in
       record {
         answers = ap₂ (λ (x : Answered) (xs : List Answered). x ∷ xs) (one_event i m content holds all.0) rest.answers;
         holds = rest.holds;

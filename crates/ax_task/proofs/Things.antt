@@ -1,5 +1,5 @@
 -- What each thing that the task does makes of the machine: a key fires, a mail is run, a marker is sent, a row or a marker is taken.
-use Rattle.std.proofs.Common.{◌≡◌, ℕ, ℤ, int_lt, List, [], ◌∷◌, ◌++◌, Option, Some, None, refl, sym, ap, ap₂, ◌∙◌, subst, false}
+use Rattle.std.proofs.Common.{◌≡◌, ℕ, ℤ, int_lt, List, [], ◌∷◌, ◌++◌, Option, Some, None, refl, sym, ap, ◌∙◌, subst, false}
 use Rattle.std.proofs.lemmas.Bool.{cond-false}
 use Rattle.std.proofs.lemmas.List.{append-nil}
 use Rattle.ax_text.specs.Programs.{Program as AnyProgram}
@@ -7,14 +7,14 @@ use Rattle.ax_machine.specs.Entries.{Key, Watermark, Entry, says}
 use Rattle.ax_machine.specs.Entries as entry
 use Rattle.ax_machine.specs.Events.{Event}
 use Rattle.ax_machine.specs.Events as event
-use Rattle.ax_machine.specs.Sync.{Plain, plain_step, sync, all_fired, at_watermark, writes}
+use Rattle.ax_machine.specs.Sync.{Plain, sync, all_fired, at_watermark, writes}
 use Rattle.ax_lang.specs.declared.program.Program.{Program}
 use Rattle.ax_lang.specs.Shown.{shown_program}
 use Rattle.ax_buffer.specs.declared.items.Item.{Item}
 use Rattle.ax_time.specs.declared.epoch.Marker.{Marker}
 use Rattle.ax_time.specs.declared.epoch.Marker.TheVariants as marker
 use Rattle.ax_execution.specs.Origins.{first}
-use Rattle.ax_execution.specs.Machine.{Closing, ByWatermark, ByBarrier, Closed, Machine, Happening, Admit, Close, Fire, Start, Deliver, Send, happens, outcome, sends_first, marker_of, taken}
+use Rattle.ax_execution.specs.Machine.{Closing, Closed, Machine, Happening, Admit, Close, Fire, Send, happens, outcome, sends_first, marker_of, taken}
 use Rattle.ax_execution.specs.MachineControls.{MachineControl, control_of_machine, happens_on, outcome_on, sent_entries}
 use Rattle.ax_execution.specs.ControlsAllowed.{AllowedOn, IsAnswered}
 use Rattle.ax_execution.proofs.Alone.{sync_next, goes_as_alone}
@@ -33,7 +33,7 @@ use Rattle.ax_core.specs.Events.{Makes, Fires, event_of, FiresNext, Runs, IsFirs
 use Rattle.ax_core.proofs.Sends.{accepted}
 use Rattle.ax_task.specs.Serving.{Content}
 use Rattle.ax_task.specs.Refined.{Reaches, Refines}
-use Rattle.ax_task.proofs.Refining.{sync_more, control_behind, reaches_one, AllAsk, all_ask, Leaves, stands_behind, made}
+use Rattle.ax_task.proofs.Refining.{control_behind, reaches_one, AllAsk, all_ask, Leaves, stands_behind, made}
 
 -- the event that closes an epoch
 abbrev pub marker_event : Marker → Event
@@ -132,10 +132,10 @@ module _ (s : Settings) (p : Program) (a b : Controller) (content : Content) (ou
             let go : AllowedOn (rules_of s) (Fire t.context t.key) (control_of_machine m) = subst (λ (u : Settings). AllowedOn (rules_of u) (Fire t.context t.key) (control_of_machine m)) x.settings y.1.made.allowed in
             let stands : StandsFor b (happens_on (shown_program p) (Fire t.context t.key) None (control_of_machine m)) = subst (λ (u : Program). StandsFor b (happens_on (shown_program u) (Fire t.context t.key) None (control_of_machine m))) x.program y.1.made.stands in
             let all : Refines s p b content out ((read ++ []) ++ []) ((written ++ says f.key f.outs) ++ []) =
-                stands_behind s p a b content out read written x l ((read ++ []) ++ []) ((written ++ says f.key f.outs) ++ []) (happens s.groups (shown_program p) (Fire t.context t.key) m)
-                (reaches_one s (shown_program p) content (read ++ []) [] (written ++ says f.key f.outs) [] m reaches (Fire t.context t.key) tt go refl refl)
-                (all_ask s p a out content (read ++ []) (written ++ says f.key f.outs) m reaches (Fire t.context t.key) tt go asks)
-                (subst (StandsFor b) (sym (control_behind s.groups (shown_program p) (Fire t.context t.key) m tt)) stands) in
+            stands_behind s p a b content out read written x l ((read ++ []) ++ []) ((written ++ says f.key f.outs) ++ []) (happens s.groups (shown_program p) (Fire t.context t.key) m)
+            (reaches_one s (shown_program p) content (read ++ []) [] (written ++ says f.key f.outs) [] m reaches (Fire t.context t.key) tt go refl refl)
+            (all_ask s p a out content (read ++ []) (written ++ says f.key f.outs) m reaches (Fire t.context t.key) tt go asks)
+            (subst (StandsFor b) (sym (control_behind s.groups (shown_program p) (Fire t.context t.key) m tt)) stands) in
             no_read b (says f.key f.outs)
             (subst (λ (es : List Event). Refines s p b content out es (written ++ says f.key f.outs)) (append-nil (read ++ []))
             (subst (λ (es : List Entry). Refines s p b content out ((read ++ []) ++ []) es) (append-nil (written ++ says f.key f.outs)) all))

@@ -1,9 +1,8 @@
 -- The work left, as the controller has it, is that of the machine for which it stands.
-use Rattle.std.proofs.Common.{◌≡◌, ◌⊎◌, ℕ, suc, ◌+◌, ◌-◌, ◌*◌, ◌≤◌, ◌<◌, ℤ, List, [], ◌∷◌, length, Bool, true, false, cond, ◌||◌, Option, Some, None, refl, sym, ap, ap₂, ◌∙◌, subst, inl, inr, arith}
+use Rattle.std.proofs.Common.{◌≡◌, ℕ, ◌+◌, ◌-◌, ℤ, List, [], ◌∷◌, length, Bool, true, false, cond, Option, Some, None, refl, sym, ap, ap₂, ◌∙◌, inl, inr, arith}
 use Rattle.std.proofs.lemmas.Bool.{both_ways}
 use Rattle.std.proofs.lemmas.Cmp.{nat_list_cmp_total}
 use Rattle.std.specs.BTreeMap.{is_at}
-use Rattle.std.specs.BTreeSet.{insert_key}
 use Rattle.std.specs.List.{list_any}
 use Rattle.std.specs.List.Sorted.{IsStrictlySortedBy}
 use Rattle.std.specs.Map.{lookup, keys_of}
@@ -31,15 +30,13 @@ use Rattle.ax_account.specs.Accounts.{part_of, busy_keys}
 use Rattle.ax_mailbox.specs.declared.mail.Mail.{Mail}
 use Rattle.ax_time.specs.Timers.{times_of}
 use Rattle.ax_time.proofs.KeptLemmas as kept
-use Rattle.ax_execution.specs.Accepted.{AreAccepted}
-use Rattle.ax_execution.specs.Sums.{total}
 use Rattle.ax_execution.specs.Contexts.{Stage, Unbegun, Begun, Context, row_context, Waiting, Row, Mark, part_groups, rows_in}
 use Rattle.ax_execution.specs.Groups.{weight}
 use Rattle.ax_execution.specs.Rest.{silent, silent_stage, rest_owner, rest_items, owner_work, part_work}
 use Rattle.ax_execution.specs.KeyControls.{KeyControl, control_of}
-use Rattle.ax_execution.specs.Machine.{Machine, Rules, work}
+use Rattle.ax_execution.specs.Machine.{Machine, work}
 use Rattle.ax_execution.specs.MachineControls.{MachineControl, control_of_machine, control_work, work_on}
-use Rattle.ax_execution.specs.ControlsAllowed.{IsFreeOn, HoldBusy}
+use Rattle.ax_execution.specs.ControlsAllowed.{HoldBusy}
 use Rattle.ax_execution.specs.ControlOrder.{IsInOrder}
 use Rattle.ax_execution.proofs.Handlers.{Good, handles}
 use Rattle.ax_execution.proofs.KeySums.{total_same}
@@ -49,7 +46,7 @@ use Rattle.ax_execution.proofs.ReachedOrderly.{reached_in_order}
 use Rattle.ax_execution.proofs.Upto.{by_cases}
 use Rattle.ax_core.specs.declared.record.Record.{Record}
 use Rattle.ax_core.specs.declared.controller.Controller.{Controller}
-use Rattle.ax_core.specs.Contexts.{IsRunning, StageStands, IsContext, ContextStands}
+use Rattle.ax_core.specs.Contexts.{StageStands, ContextStands}
 use Rattle.ax_core.specs.Keys.{OwnerStands, ItemsStand, PartStands}
 use Rattle.ax_core.specs.Sound.{rules_of, StandsFor}
 use Rattle.ax_core.proofs.Sends.{accepted, markers_length}
@@ -163,12 +160,15 @@ module _ (a : Controller) (content : Content) (c : MachineControl) (x : StandsFo
   order = reached_in_order (rules_of a.settings) (shown_program a.program) c (accepted a.program) x.reached
 
   holds_busy : HoldBusy (rising (busy_keys a.accounts)) c
-  holds_busy = record { rise = rising_rise (busy_keys a.accounts); others = λ k h.
-      let none : part_of a.accounts k ≡ free = absent_parts k a.accounts.parts h in
-      record {
-        owner = owner_free a.program a.mails.mails a.contexts k (part_of a.accounts k).owner (c.controls k).owner (ap (λ (t : Part). t.owner) none) (x.stands.keys k).owner;
-        waiting = items_free a.program a.mails.mails a.contexts k (part_of a.accounts k).waiting (c.controls k).waiting (ap (λ (t : Part). t.waiting) none) (x.stands.keys k).items;
-      } }
+  holds_busy = record {
+    rise = rising_rise (busy_keys a.accounts);
+    others = λ k h.
+        let none : part_of a.accounts k ≡ free = absent_parts k a.accounts.parts h in
+        record {
+          owner = owner_free a.program a.mails.mails a.contexts k (part_of a.accounts k).owner (c.controls k).owner (ap (λ (t : Part). t.owner) none) (x.stands.keys k).owner;
+          waiting = items_free a.program a.mails.mails a.contexts k (part_of a.accounts k).waiting (c.controls k).waiting (ap (λ (t : Part). t.waiting) none) (x.stands.keys k).items;
+        };
+  }
 
   key_work : (k : Key) → control_work (shown_program a.program) (control_in a k) (content k) ≡ control_work (shown_program a.program) (c.controls k) (content k)
   key_work k =

@@ -1,0 +1,4 @@
+pub mod ByteOrder
+pub mod KeyParts
+pub mod Turned
+pub mod Places
