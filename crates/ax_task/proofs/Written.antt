@@ -1,5 +1,5 @@
 -- What was written of some bytes, and of some lines.
-use Rattle.std.proofs.Common.{◌≡◌, ℕ, ℤ, ◌+◌, ◌<◌, List, [], ◌∷◌, ◌++◌, length, take, drop, get_or, Option, Result, Ok, Err, OnErr, inr, refl, sym, ap, ◌∙◌, subst, arith, append_assoc}
+use Rattle.std.proofs.Common.{◌≡◌, ℕ, ℤ, ◌+◌, ◌<◌, List, [], ◌∷◌, ◌++◌, length, take, drop, get_or, Option, Result, Ok, Err, OnOk, OnErr, inr, refl, sym, ap, ◌∙◌, subst, arith, append_assoc}
 use Rattle.std.proofs.lemmas.List.{append-nil, take-append-drop, take_at, take_all, at_drop_more}
 use Rattle.std.specs.Io.KnownBytes.{Appends}
 use Rattle.ax_base.proofs.OutsideLemmas.{Appends-none, Appends-more}
@@ -69,3 +69,11 @@ own_counts a b (Err fault.NoMemory) h = (h.0, inr h.1)
 pub counts_behind : {T : Type 0} (a b c : Counts) (r : Result T SinkFault) → b ≡ a → OwnCounts b c r → OwnCounts a c r
 counts_behind {T} a b c r e h = let P : Counts → Type 0 = λ x. OwnCounts x c r in subst P e h
 
+
+pub on_ok : {T E P Q : Type 0} (r : Result T E) → OnOk r P → (P → Q) → OnOk r Q
+on_ok (Ok x) p f = f p
+on_ok (Err e) p f = tt
+
+pub on_err : {T E P Q : Type 0} (r : Result T E) → OnErr r P → (P → Q) → OnErr r Q
+on_err (Ok x) p f = tt
+on_err (Err e) p f = f p
