@@ -5,7 +5,6 @@
 #![tactic(auto)]
 
 mod block;
-mod cells;
 pub mod config;
 mod end;
 mod engine;
