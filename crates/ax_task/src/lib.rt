@@ -5,6 +5,7 @@
 #![tactic(auto)]
 
 mod block;
+mod cells;
 pub mod config;
 mod end;
 mod engine;
