@@ -111,7 +111,7 @@ module _ (s : Settings) (p : Program) (from : From) (e : Engine) (r : Reading) (
   ends_cut {T} f l' reads' h' w' taken rise some counts = record {
     told = told_cut f l' taken;
     stopped = (seen, took f l' taken, wrote f);
-    counts = cut_counts {T} from.outer.reads reads' from.outer.writes w' f rise (subst (λ (w : Counts). OwnCounts {T = T} w w' (Err f)) x.writes counts);
+    counts = cut_counts {T = T} from.outer.reads reads' from.outer.writes w' f rise (subst (λ (w : Counts). OwnCounts {T = T} w w' (Err f)) x.writes counts);
   }
     where
       y : WroteSome s p x.read x.written now.holds h'
@@ -145,15 +145,15 @@ module _ (s : Settings) (p : Program) (from : From) (e : Engine) (r : Reading) (
   -- a line could not be written, or memory was short for it
   pub broke_off : {T : Type 0} (f : SinkFault) (h' : Option (List ℕ)) (w' : Counts) → WritesSome e now.holds h' → OwnCounts {T = T} now.writes w' (Err f)
       → HasEnded s p from (record { left = now.left; reads = now.reads; holds = h'; writes = w' }) (sink_end f)
-  broke_off {T} f h' w' some counts = ends_cut {T} f now.left now.reads h' w' taken_here (may_rise from.outer.reads now.reads r.found x.has_read.counts) some counts
+  broke_off {T} f h' w' some counts = ends_cut {T = T} f now.left now.reads h' w' taken_here (may_rise from.outer.reads now.reads r.found x.has_read.counts) some counts
 
   -- memory was short elsewhere
   pub short_here : HasEnded s p from now end.NoMemory
-  short_here = broke_off {Unit {0}} sink.NoMemory now.holds now.writes (some_none e now.holds) (refl, inl refl)
+  short_here = broke_off {T = Unit {0}} sink.NoMemory now.holds now.writes (some_none e now.holds) (refl, inl refl)
 
   -- memory was short as the next event was read
   pub short_read : (l' : Option (List ℕ)) → ReadsShort r lines now.left l' now.reads → HasEnded s p from (record { left = l'; reads = now.reads; holds = now.holds; writes = now.writes }) end.NoMemory
-  short_read l' o = ends_cut {Unit {0}} sink.NoMemory l' now.reads now.holds now.writes (o from x.read x.has_read) (may_rise from.outer.reads now.reads r.found x.has_read.counts) (some_none e now.holds) (refl, inl refl)
+  short_read l' o = ends_cut {T = Unit {0}} sink.NoMemory l' now.reads now.holds now.writes (o from x.read x.has_read) (may_rise from.outer.reads now.reads r.found x.has_read.counts) (some_none e now.holds) (refl, inl refl)
 
   -- nothing is left to do
   pub ended_well : (end : End) → r.found ≡ Some end → r.next ≡ None → IsQuiet e.core → ((m : MachineControl) → StandsFor e.core m → in_flight_on m ≡ 0) → HasEnded s p from now end
