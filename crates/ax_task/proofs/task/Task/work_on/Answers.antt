@@ -1,4 +1,4 @@
-use Rattle.std.proofs.Common.{sym, subst}
+use Rattle.std.proofs.Common.{Bool, sym, subst}
 use Rattle.std.specs.Io.KnownBytes.{append_known}
 use Rattle.ax_task.specs.Tasks.{Outer, HasEnded}
 use Rattle.ax_task.specs.declared.end.End.{End}
@@ -37,4 +37,4 @@ returns-in-Err-clause-steps g c = λ s p from x.
     let h = append_known (held c.work.new.out.inner.now) c.work.new.out.room.now in
     let w = counts c.work.new.out.inner.now in
     subst (λ (e : End). HasEnded s p from (record { left = now.left; reads = now.reads; holds = h; writes = w }) e) (sym c.end_of.ensures)
-    (broke_off s p from c.args.self.now.engine c.args.self.now.reading c.args.lines.now now x c.in-Err.fault h w c.in-Err.ensures.part c.in-Err.ensures.counts)
+    (broke_off s p from c.args.self.now.engine c.args.self.now.reading c.args.lines.now now x Bool c.in-Err.fault h w c.in-Err.ensures.part c.in-Err.ensures.counts)
