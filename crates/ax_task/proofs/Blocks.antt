@@ -102,7 +102,7 @@ module _ (states : List State) (map : Map) (k : Key) where
       (λ x. cond-true (bytes_eq j k) (part_lines states (record { key = j; state = map j })) found x ∙ ap (λ (i : Key). part_lines states (record { key = i; state = map i })) (key_is j k x))
       (λ x. cond-false (bytes_eq j k) (part_lines states (record { key = j; state = map j })) found x ∙ e))
 
-  among : (found : List OutLine) (keys : List Key) → list_any (bytes_eq k) keys ≡ true → lines_from states k found (parts_of keys map) ≡ its
+  pub among : (found : List OutLine) (keys : List Key) → list_any (bytes_eq k) keys ≡ true → lines_from states k found (parts_of keys map) ≡ its
   among found [] h = absurd (both_ways false refl h)
   among found (j ∷ js) h = by_cases (bytes_eq j k)
       (λ x. once_found (cond (bytes_eq j k) (part_lines states (record { key = j; state = map j })) found) js
@@ -113,7 +113,7 @@ module _ (states : List State) (map : Map) (k : Key) where
       rest true e x y = absurd (both_ways (bytes_eq j k) x (ap (λ (i : Key). bytes_eq j i) (key_is k j e) ∙ same_key j))
       rest false e x y = y
 
-  not_among : (keys : List Key) → list_any (bytes_eq k) keys ≡ false → lines_from states k [] (parts_of keys map) ≡ []
+  pub not_among : (keys : List Key) → list_any (bytes_eq k) keys ≡ false → lines_from states k [] (parts_of keys map) ≡ []
   not_among [] h = refl
   not_among (j ∷ js) h = of (bytes_eq k j) refl h (not_among js)
     where

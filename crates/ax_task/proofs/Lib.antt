@@ -24,3 +24,5 @@ pub mod BatchLemmas
 pub mod SoundLemmas
 pub mod TaskLemmas
 pub mod ReadingLemmas
+pub mod Snapping
+pub mod Sending

@@ -1,9 +1,9 @@
 -- What was written of some bytes, and of some lines.
-use Rattle.std.proofs.Common.{◌≡◌, ℕ, ℤ, ◌+◌, ◌<◌, List, [], ◌∷◌, ◌++◌, length, take, drop, get_or, Option, Result, Ok, Err, OnErr, inr, refl, sym, ap, ◌∙◌, subst, arith, append_assoc}
+use Rattle.std.proofs.Common.{◌≡◌, ℕ, ℤ, ◌+◌, ◌<◌, List, [], ◌∷◌, ◌++◌, length, take, drop, get_or, Option, Result, Ok, Err, OnOk, OnErr, inr, refl, sym, ap, ◌∙◌, subst, arith, append_assoc}
 use Rattle.std.proofs.lemmas.List.{append-nil, take-append-drop, take_at, take_all, at_drop_more}
 use Rattle.std.specs.Io.KnownBytes.{Appends}
 use Rattle.ax_base.proofs.OutsideLemmas.{Appends-none, Appends-more}
-use Rattle.ax_base.specs.Outside.{AppendsSome, Counts, WriteCounts, OwnCounts}
+use Rattle.ax_base.specs.Outside.{AppendsSome, AppendsPart, Counts, WriteCounts, OwnCounts}
 use Rattle.ax_base.specs.declared.outside.SinkFault.{SinkFault}
 use Rattle.ax_base.specs.declared.outside.SinkFault.TheVariants as fault
 use Rattle.ax_machine.specs.Entries.{Key, Out, says, text_of, entry_text}
@@ -69,3 +69,15 @@ own_counts a b (Err fault.NoMemory) h = (h.0, inr h.1)
 pub counts_behind : {T : Type 0} (a b c : Counts) (r : Result T SinkFault) → b ≡ a → OwnCounts b c r → OwnCounts a c r
 counts_behind {T} a b c r e h = let P : Counts → Type 0 = λ x. OwnCounts x c r in subst P e h
 
+
+pub on_ok : {T E P Q : Type 0} (r : Result T E) → OnOk r P → (P → Q) → OnOk r Q
+on_ok (Ok x) p f = f p
+on_ok (Err e) p f = tt
+
+pub on_err : {T E P Q : Type 0} (r : Result T E) → OnErr r P → (P → Q) → OnErr r Q
+on_err (Ok x) p f = tt
+on_err (Err e) p f = f p
+
+-- a proper prefix is a prefix
+pub some_of_part : (a b : Option (List ℕ)) (x : List ℕ) → AppendsPart a b x → AppendsSome a b x
+some_of_part a b x p = (p.0, p.2)

@@ -11,3 +11,6 @@ pub mod Known
 pub mod Work
 pub mod Engines
 pub mod Tasks
+pub mod HeldKeys
+pub mod Snapped
+pub mod Exchanged
