@@ -129,9 +129,11 @@ module _ (v : Serving) (sound : AreSound v) where
     where
       at_s : (t : ℕ) → t ≡ s → get_or (set v.batches s batch) t [] ≡ batch
       at_s t e = ap (λ (u : ℕ). get_or (set v.batches s batch) u []) e ∙ get_or-set_same v.batches s batch [] there
+
       fit : (t : ℕ) → (t ≡ s) ⊎ (t ≢ s) → AllFit v.kinds (get_or (set v.batches s batch) t [])
       fit t (inl e) = subst (AllFit v.kinds) (sym (at_s t e)) fits
       fit t (inr n) = subst (AllFit v.kinds) (sym (get_or-set_other v.batches s t batch [] n)) (sound.fit t)
+
       once : (t : ℕ) → (t ≡ s) ⊎ (t ≢ s) → times_sent t v.sent + one_at t s ≡ one_if_out (get_or (set v.batches s batch) t [])
       once t (inl e) =
           let was : one_if_out (out v t) ≡ 0 = ap one_if_out (ap (out v) e ∙ home) in
@@ -176,14 +178,18 @@ module _ (v : Serving) (sound : AreSound v) where
         where
           holds : s < length v.shards
           holds = omega (arith, there, sound.shards)
+
           kinds : (t : ℕ) → (t ≡ s) ⊎ (t ≢ s) → (get_or (set v.shards s h) t (nothing_held v.kinds)).kinds ≡ v.kinds
           kinds t (inl e) = ap (λ (u : ℕ). (get_or (set v.shards s h) u (nothing_held v.kinds)).kinds) e ∙ ap (λ (x : Holding). x.kinds) (get_or-set_same v.shards s h (nothing_held v.kinds) holds) ∙ same
           kinds t (inr n) = ap (λ (x : Holding). x.kinds) (get_or-set_other v.shards s t h (nothing_held v.kinds) n) ∙ sound.kinds t
+
           at_s : (t : ℕ) → t ≡ s → get_or (set v.batches s []) t [] ≡ []
           at_s t e = ap (λ (u : ℕ). get_or (set v.batches s []) u []) e ∙ get_or-set_same v.batches s [] [] there
+
           fit : (t : ℕ) → (t ≡ s) ⊎ (t ≢ s) → AllFit v.kinds (get_or (set v.batches s []) t [])
           fit t (inl e) = subst (AllFit v.kinds) (sym (at_s t e)) (λ k d g. absurd (omega (arith, g)))
           fit t (inr n) = subst (AllFit v.kinds) (sym (get_or-set_other v.batches s t [] [] n)) (sound.fit t)
+
           once : (t : ℕ) → (t ≡ s) ⊎ (t ≢ s) → times_sent t (remove v.sent place) ≡ one_if_out (get_or (set v.batches s []) t [])
           once t (inl e) =
               let was : one_if_out (out v t) ≡ 1 = ap (λ (u : ℕ). one_if_out (out v u)) e ∙ was_out in
