@@ -8,8 +8,8 @@ ghost use Rattle.ax_cli.specs.FaultLine.{WritesLine, line_of};
 
 use crate::fault_line::write_fault_line;
 use crate::status::Status;
-use ax_base::{Sink, Source};
-use ax_task::run_task_alone;
+use ax_base::{Nums, Sink, Source};
+use ax_task::{Config, Settings, run_task_alone};
 use ax_words::{WordFault, read_words};
 use std::alloc::Global;
 
@@ -23,6 +23,19 @@ fn groups_of(alloc: Global, words: &[&str]) -> Result<u16, WordFault>
     match read_words(alloc, words) {
         Ok(options) => Ok(options.max_parallelism),
         Err(fault) => Err(fault),
+    }
+}
+
+// How a run with so many key groups works.
+fn config_of(groups: u16) -> Config {
+    Config {
+        settings: Settings {
+            serial: true,
+            shards: groups.min(8),
+            groups,
+            in_flight: 6000,
+        },
+        batch: 1000,
     }
 }
 
@@ -43,7 +56,7 @@ fn run_words<S: Source, K: Sink>(
     ensures counts { StatusCounts (record { reads = S.faults input.old; writes = K.counts out.old }) (record { reads = S.faults input.new; writes = K.counts out.new }) result }
 {
     match groups_of(alloc, words) {
-        Ok(groups) => Status::of_end(run_task_alone(alloc, groups, input, out)),
+        Ok(groups) => Status::of_end(run_task_alone(alloc, &config_of(groups), Nums::new(alloc), input, out)),
         Err(WordFault::Usage) => Status::Usage,
         Err(WordFault::NoMemory) => Status::NoMemory,
     }

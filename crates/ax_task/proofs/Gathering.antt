@@ -16,7 +16,7 @@ use Rattle.ax_task.specs.Parse.{Stream}
 use Rattle.ax_task.specs.Clause.{WritesLawful, WritesPart, StreamEnds, RunCounts, EndCounts}
 use Rattle.ax_task.specs.Reads.{sink_end, is_stopped}
 use Rattle.ax_task.specs.Passes.{Feed, Taken, Took, Wrote}
-use Rattle.ax_plain.proofs.RunLemmas.{AppendsSome-all}
+use Rattle.ax_task.proofs.Written.{AppendsSome-all}
 use Rattle.ax_task.proofs.Progress.{holds, wrote_some}
 use Rattle.ax_task.specs.declared.end.End.{End}
 use Rattle.ax_task.specs.declared.end.End.TheVariants as end

@@ -6,7 +6,7 @@ use Rattle.ax_base.specs.Outside.{Told, AppendsSome}
 use Rattle.ax_base.specs.declared.outside.SinkFault.{SinkFault}
 use Rattle.ax_base.specs.declared.outside.SinkFault.TheVariants as sink
 use Rattle.ax_base.proofs.OutsideLemmas.{Appends-none, Appends-more, Told-trans}
-use Rattle.ax_plain.proofs.RunLemmas.{AppendsSome-none, AppendsSome-all, AppendsSome-behind}
+use Rattle.ax_task.proofs.Written.{AppendsSome-none, AppendsSome-all, AppendsSome-behind}
 use Rattle.ax_text.specs.Programs.{Program}
 use Rattle.ax_machine.specs.Entries.{Entry, text_of}
 use Rattle.ax_machine.specs.Events.{Event}

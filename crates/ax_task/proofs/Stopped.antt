@@ -7,7 +7,7 @@ use Rattle.ax_base.specs.Pieces.{Piece, pieces_of, whole_lines}
 use Rattle.ax_base.specs.Reader.{Reader}
 use Rattle.ax_base.specs.declared.lines.Line.{Line}
 use Rattle.ax_base.proofs.OutsideLemmas.{Appends-none, Told-trans, Told-map}
-use Rattle.ax_plain.proofs.RunLemmas.{AppendsSome-none}
+use Rattle.ax_task.proofs.Written.{AppendsSome-none}
 use Rattle.ax_text.specs.Programs.{Program}
 use Rattle.ax_machine.specs.Events.{Event}
 use Rattle.ax_machine.specs.Sync.{sync}

@@ -4,3 +4,13 @@ pub mod Clause
 pub mod Reads
 pub mod Passes
 pub mod Laws
+pub mod Serving
+pub mod Shards
+pub mod Refined
+pub mod Known
+pub mod Work
+pub mod Engines
+pub mod Tasks
+pub mod HeldKeys
+pub mod Snapped
+pub mod Exchanged

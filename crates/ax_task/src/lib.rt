@@ -4,12 +4,23 @@
 //! own parts.
 #![tactic(auto)]
 
+mod block;
+mod cells;
+pub mod config;
 mod end;
+mod engine;
+mod exchange;
 pub mod laws;
+mod line;
 mod read_fault;
+mod reading;
 mod section;
+mod shard;
+mod shards;
 mod stream;
 mod task;
 
+pub use ax_core::Settings;
+pub use config::Config;
 pub use end::End;
 pub use task::run_task_alone;

@@ -1,27 +1,26 @@
 //! A whole run: the program section, then the events in a plain loop.
-ghost use Rattle.std.specs.Prelude.{◌≡◌, ◌≤◌, ◌+◌, true, false, OnOk, OnErr, List};
-ghost use Rattle.std.specs.Io.KnownBytes.{Appends, append_known};
-ghost use Rattle.ax_base.specs.Outside.{Told, AppendsSome, OwnCounts};
+ghost use Rattle.std.specs.Prelude.{◌≡◌, ◌<◌, ◌+◌, true, false, IfOk, Option, List, ℕ};
+ghost use Rattle.std.specs.Io.KnownBytes.{append_known};
+ghost use Rattle.ax_base.specs.Outside.{Counts, Told};
 ghost use Rattle.ax_base.specs.Given.{ahead};
-ghost use Rattle.ax_machine.specs.Entries.{text_of};
 ghost use Rattle.ax_machine.specs.Events as shown;
-ghost use Rattle.ax_machine.specs.Sync.{plain_step, plain_start, silent};
-ghost use Rattle.ax_input.specs.Shown.{shown_event};
-ghost use Rattle.ax_lang.specs.Shown.{shown_program, shown_kinds};
-ghost use Rattle.ax_plain.specs.Plain.{shown_plain, ThreadFits};
+ghost use Rattle.ax_lang.specs.Shown.{shown_program};
+ghost use Rattle.ax_core.specs.Sound.{InRange};
 ghost use Rattle.ax_task.specs.Parse.{parse, stream_of, first_last};
-ghost use Rattle.ax_task.specs.Reads.{sink_end, end_in_section, end_in_stream, is_stopped};
+ghost use Rattle.ax_task.specs.Reads.{sink_end, end_in_section, is_stopped};
 ghost use Rattle.ax_task.specs.Clause.{WritesLawful, StreamEnds, RunEnds, Stops, EndCounts};
-ghost use Rattle.ax_task.specs.Passes.{events_at, feed_of, Took, Wrote, gathered};
+ghost use Rattle.ax_task.specs.Passes.{events_at, feed_of, Took, Wrote};
+ghost use Rattle.ax_task.specs.Engines.{IsReady, IsQuiet};
+ghost use Rattle.ax_task.specs.Tasks.{Outer, MayRead, Steps, TakesHeld, HasEnded};
 
+use crate::config::Config;
 use crate::end::End;
+use crate::engine::Engine;
 use crate::read_fault::ReadFault;
+use crate::reading::Reading;
 use crate::section::gather;
-use crate::stream::EventReader;
-use ax_base::{Begun, Gather, Lines, Room, Sink, SinkFault, Source};
-use ax_input::Event;
+use ax_base::{Begun, Gather, Lines, NoMemory, Nums, Room, Sink, SinkFault, Source};
 use ax_lang::{ProgFault, Program, read_program};
-use ax_plain::PlainThread;
 use std::alloc::Global;
 use std::marker::Brand;
 
@@ -49,17 +48,6 @@ fn end_in_section(fault: ReadFault) -> End
     }
 }
 
-// The end of a run at a fault of the events.
-fn end_in_stream(fault: ReadFault) -> End
-    ensures { result ≡ end_in_stream fault }
-{
-    match fault {
-        ReadFault::NoMemory => End::NoMemory,
-        ReadFault::Fault { line, kind } => End::Input { line, kind },
-        ReadFault::Read => End::Read,
-    }
-}
-
 // Whether nothing more is written behind this end.
 fn is_stopped(end: &End) -> bool
     ensures { result ≡ is_stopped end.now }
@@ -67,77 +55,163 @@ fn is_stopped(end: &End) -> bool
     matches!(end, End::Write | End::NoMemory)
 }
 
-// Takes one event. Behind a watermark or a barrier all that was gathered is written.
-fn take_event<K: Sink, B: Begun>(
-    thread: &mut PlainThread,
-    program: &Program,
-    groups: u16,
-    event: &Event,
-    out: &mut Gather<'_, K, B>,
-) -> Result<(), SinkFault>
-    requires fits { ThreadFits (shown_kinds program.now) thread.old }
-    requires some { 1 ≤ groups }
-    requires most { groups ≤ 32768 }
-    ensures fits { OnOk result (ThreadFits (shown_kinds program.now) thread.new) }
-    ensures steps { OnOk result (shown_plain (shown_kinds program.now) thread.new
-        ≡ silent (plain_step groups (shown_program program.now) (shown_event event.now) (shown_plain (shown_kinds program.now) thread.old))) }
-    ensures lines { OnOk result (Appends (append_known (K.holds out.old.inner.now) out.old.room.now) (append_known (K.holds out.new.inner.now) out.new.room.now)
-        (text_of (plain_step groups (shown_program program.now) (shown_event event.now) (shown_plain (shown_kinds program.now) thread.old)).entries)) }
-    ensures part { OnErr result (AppendsSome (append_known (K.holds out.old.inner.now) out.old.room.now) (append_known (K.holds out.new.inner.now) out.new.room.now)
-        (text_of (plain_step groups (shown_program program.now) (shown_event event.now) (shown_plain (shown_kinds program.now) thread.old)).entries)) }
-    ensures counts { OwnCounts (K.counts out.old.inner.now) (K.counts out.new.inner.now) result }
-    ensures same { out.new.inner.ghost_name ≡ out.old.inner.ghost_name }
-{
-    thread.take(program, groups, event, out)?;
-    match event {
-        Event::Row { .. } => Ok(()),
-        Event::Mark { .. } | Event::Barrier { .. } => out.flush(),
+/// What a step of a task did.
+#[derive(Clone, Copy, Debug, PartialEq, Eq)]
+enum Step {
+    /// One thing was done.
+    Went,
+    /// The run has ended.
+    End { end: End },
+}
+
+/// A run behind the program section: the controller with its shards, and what was read and isn't taken.
+#[derive(Drop)]
+struct Task {
+    alloc: Global,
+    engine: Engine,
+    reading: Reading,
+}
+
+impl Task {
+    // Takes the event that is held, where there is one and it can be taken. Whether it was.
+    fn take_held(&mut self) -> Result<bool, NoMemory>
+        requires ready { IsReady self.old.engine }
+        ensures taken { IfOk result (λ taken. taken ≡ true → TakesHeld self.old.engine self.new.engine self.old.reading self.new.reading) }
+        ensures same { IfOk result (λ taken. taken ≡ false → (self.new.engine ≡ self.old.engine) × (self.new.reading ≡ self.old.reading)) }
+    {
+        let Some(event) = self.reading.next.take() else {
+            return Ok(false);
+        };
+        if !self.engine.may_take(&event) {
+            self.reading.next = Some(event);
+            return Ok(false);
+        }
+        self.engine.take(event)?;
+        Ok(true)
+    }
+
+    // What is left to do for the events that were taken, or nothing.
+    fn work_on<S: Source, K: Sink, B: Begun>(
+        &mut self,
+        lines: &mut Lines,
+        input: &mut S,
+        out: &mut Gather<'_, K, B>,
+    ) -> Step
+        requires ready { IsReady self.old.engine }
+        requires may { MayRead lines.old self.old.reading.found }
+        ensures steps { Steps self.old.engine self.new.engine self.old.reading self.new.reading lines.old lines.new
+            (record { left = S.left input.old; reads = S.faults input.old; holds = append_known (K.holds out.old.inner.now) out.old.room.now; writes = K.counts out.old.inner.now })
+            (record { left = S.left input.new; reads = S.faults input.new; holds = append_known (K.holds out.new.inner.now) out.new.room.now; writes = K.counts out.new.inner.now }) result }
+        ensures same { out.new.inner.ghost_name ≡ out.old.inner.ghost_name }
+    {
+        match self.engine.work(out) {
+            Ok(true) => Step::Went,
+            Ok(false) => self.read_on(lines, input),
+            Err(fault) => Step::End { end: end_of(fault) },
+        }
+    }
+
+    // Looks for the next event and takes it where it can be taken; else requests are sent and served, and where none are, the run
+    // has ended. Condition: nothing is left to do for the events that were taken but to send and serve requests.
+    fn read_on<S: Source>(&mut self, lines: &mut Lines, input: &mut S) -> Step
+        requires ready { IsReady self.old.engine }
+        requires may { MayRead lines.old self.old.reading.found }
+        requires quiet { IsQuiet self.old.engine.core }
+        ensures { (holds : Option (List ℕ)) (writes : Counts) → Steps self.old.engine self.new.engine self.old.reading self.new.reading lines.old lines.new
+            (record { left = S.left input.old; reads = S.faults input.old; holds = holds; writes = writes })
+            (record { left = S.left input.new; reads = S.faults input.new; holds = holds; writes = writes }) result }
+    {
+        match self.reading.look(self.alloc, lines, input) {
+            Ok(()) => self.take_or_exchange(lines),
+            Err(NoMemory) => Step::End { end: End::NoMemory },
+        }
+    }
+
+    // The same, where the next event was looked for.
+    fn take_or_exchange(&mut self, lines: &Lines) -> Step
+        requires ready { IsReady self.old.engine }
+        requires quiet { IsQuiet self.old.engine.core }
+        ensures { (now : Outer) → Steps self.old.engine self.new.engine self.old.reading self.new.reading lines.now lines.now now now result }
+    {
+        match self.take_held() {
+            Ok(true) => Step::Went,
+            Ok(false) => self.exchange(lines),
+            Err(NoMemory) => Step::End { end: End::NoMemory },
+        }
+    }
+
+    // The same, where the next event can't be taken or there is none.
+    fn exchange(&mut self, lines: &Lines) -> Step
+        requires ready { IsReady self.old.engine }
+        requires quiet { IsQuiet self.old.engine.core }
+        ensures { (now : Outer) → Steps self.old.engine self.new.engine self.old.reading self.new.reading lines.now lines.now now now result }
+    {
+        match self.engine.exchange() {
+            Ok(true) => Step::Went,
+            Ok(false) => self.ended(lines),
+            Err(NoMemory) => Step::End { end: End::NoMemory },
+        }
+    }
+
+    // What ended the events, where nothing is left to do.
+    fn ended(&self, lines: &Lines) -> Step
+        requires quiet { IsQuiet self.now.engine.core }
+        ensures { (now : Outer) → Steps self.now.engine self.now.engine self.now.reading self.now.reading lines.now lines.now now now result }
+    {
+        let Some(end) = self.reading.found else {
+            return Step::Went;
+        };
+        if self.reading.next.is_none() && self.engine.is_done() {
+            Step::End { end }
+        } else {
+            Step::Went
+        }
     }
 }
 
 // Takes the events behind the section, one after another.
 fn take_events<S: Source, K: Sink, B: Begun>(
     alloc: Global,
-    groups: u16,
-    program: &Program,
+    config: &Config,
+    order: Nums,
+    program: Program,
     lines: &mut Lines,
     input: &mut S,
     out: &mut Gather<'_, K, B>,
 ) -> End
     requires sound { lines.old.failed ≡ false }
-    requires some { 1 ≤ groups }
-    requires most { groups ≤ 32768 }
-    ensures told { Told (S.left input.old) (S.left input.new)
-        (λ a b. StreamEnds (λ events. WritesLawful groups true (shown_program program.now) events (gathered (K.holds out.old.inner.now) out.old.room.now (K.holds out.new.inner.now) out.new.room.now))
-        (stream_of (shown_program program.now).fields first_last (lines.old.number + 1) (ahead lines.old a)) b result) }
-    ensures stopped { (done : List shown.Event) × Told (S.left input.old) (S.left input.new)
-        (λ a b. Took done (events_at (shown_program program.now).fields first_last lines.old) (feed_of lines.old a) b result)
-        × Wrote groups true (shown_program program.now) done (gathered (K.holds out.old.inner.now) out.old.room.now (K.holds out.new.inner.now) out.new.room.now) result }
-    ensures counts { EndCounts (record { reads = S.faults input.old; writes = K.counts out.old.inner.now }) (record { reads = S.faults input.new; writes = K.counts out.new.inner.now }) result }
+    requires ranges { InRange config.now.settings }
+    requires contexts { 0 < config.now.settings.in_flight }
+    requires batch { 0 < config.now.batch }
+    ensures ended { HasEnded config.now.settings program
+        (record { means = events_at (shown_program program).fields first_last lines.old; held = lines.old.held; outer = record { left = S.left input.old; reads = S.faults input.old; holds = append_known (K.holds out.old.inner.now) out.old.room.now; writes = K.counts out.old.inner.now } })
+        (record { left = S.left input.new; reads = S.faults input.new; holds = append_known (K.holds out.new.inner.now) out.new.room.now; writes = K.counts out.new.inner.now }) result }
     ensures same { out.new.inner.ghost_name ≡ out.old.inner.ghost_name }
 {
-    let Ok(mut thread) = PlainThread::new(alloc, program) else {
+    let reading = Reading::new(alloc, program.fields());
+    let Ok(engine) = Engine::new(alloc, config, program, order) else {
         return End::NoMemory;
     };
-    let mut events = EventReader::new(alloc, program.fields());
-    'event: loop {
-        match events.next(alloc, lines, input) {
-            Ok(Some(event)) => {
-                if let Err(fault) = take_event(&mut thread, program, groups, &event, out) {
-                    return end_of(fault);
-                }
-            }
-            Ok(None) => return End::Ok,
-            Err(fault) => return end_in_stream(fault),
+    let mut task = Task {
+        alloc,
+        engine,
+        reading,
+    };
+    'step: for _ in 0..u64::MAX {
+        match task.work_on(lines, input, out) {
+            Step::Went => {}
+            Step::End { end } => return end,
         }
     }
+    End::NoMemory
 }
 
 // Runs the events behind the section. What they write is gathered, and written in large pieces.
 fn run_gathered<S: Source, K: Sink, B: Begun>(
     alloc: Global,
-    groups: u16,
-    program: &Program,
+    config: &Config,
+    order: Nums,
+    program: Program,
     lines: &mut Lines,
     input: &mut S,
     room: &mut Room,
@@ -146,18 +220,19 @@ fn run_gathered<S: Source, K: Sink, B: Begun>(
     requires held { K.holds out.now ≡ B.held }
     requires base { K.base out.now ≡ B.base }
     requires sound { lines.old.failed ≡ false }
-    requires some { 1 ≤ groups }
-    requires most { groups ≤ 32768 }
+    requires ranges { InRange config.now.settings }
+    requires contexts { 0 < config.now.settings.in_flight }
+    requires batch { 0 < config.now.batch }
     ensures told { Told (S.left input.old) (S.left input.new)
-        (λ a b. StreamEnds (λ events. WritesLawful groups true (shown_program program.now) events (record { old = K.holds out.old; new = K.holds out.new }))
-        (stream_of (shown_program program.now).fields first_last (lines.old.number + 1) (ahead lines.old a)) b result) }
+        (λ a b. StreamEnds (λ events. WritesLawful config.now.settings.groups config.now.settings.serial (shown_program program) events (record { old = K.holds out.old; new = K.holds out.new }))
+        (stream_of (shown_program program).fields first_last (lines.old.number + 1) (ahead lines.old a)) b result) }
     ensures stopped { (done : List shown.Event) × Told (S.left input.old) (S.left input.new)
-        (λ a b. Took done (events_at (shown_program program.now).fields first_last lines.old) (feed_of lines.old a) b result)
-        × Wrote groups true (shown_program program.now) done (record { old = K.holds out.old; new = K.holds out.new }) result }
+        (λ a b. Took done (events_at (shown_program program).fields first_last lines.old) (feed_of lines.old a) b result)
+        × Wrote config.now.settings.groups config.now.settings.serial (shown_program program) done (record { old = K.holds out.old; new = K.holds out.new }) result }
     ensures counts { EndCounts (record { reads = S.faults input.old; writes = K.counts out.old }) (record { reads = S.faults input.new; writes = K.counts out.new }) result }
 {
     let mut sink = Gather::<K, B>::new(room, out);
-    let end = take_events(alloc, groups, program, lines, input, &mut sink);
+    let end = take_events(alloc, config, order, program, lines, input, &mut sink);
     if is_stopped(&end) {
         return end;
     }
@@ -170,27 +245,29 @@ fn run_gathered<S: Source, K: Sink, B: Begun>(
 // The same, with a room for what is gathered.
 fn run_events<S: Source, K: Sink>(
     alloc: Global,
-    groups: u16,
-    program: &Program,
+    config: &Config,
+    order: Nums,
+    program: Program,
     lines: &mut Lines,
     input: &mut S,
     out: &mut K,
 ) -> End
     requires sound { lines.old.failed ≡ false }
-    requires some { 1 ≤ groups }
-    requires most { groups ≤ 32768 }
+    requires ranges { InRange config.now.settings }
+    requires contexts { 0 < config.now.settings.in_flight }
+    requires batch { 0 < config.now.batch }
     ensures told { Told (S.left input.old) (S.left input.new)
-        (λ a b. StreamEnds (λ events. WritesLawful groups true (shown_program program.now) events (record { old = K.holds out.old; new = K.holds out.new }))
-        (stream_of (shown_program program.now).fields first_last (lines.old.number + 1) (ahead lines.old a)) b result) }
+        (λ a b. StreamEnds (λ events. WritesLawful config.now.settings.groups config.now.settings.serial (shown_program program) events (record { old = K.holds out.old; new = K.holds out.new }))
+        (stream_of (shown_program program).fields first_last (lines.old.number + 1) (ahead lines.old a)) b result) }
     ensures stopped { (done : List shown.Event) × Told (S.left input.old) (S.left input.new)
-        (λ a b. Took done (events_at (shown_program program.now).fields first_last lines.old) (feed_of lines.old a) b result)
-        × Wrote groups true (shown_program program.now) done (record { old = K.holds out.old; new = K.holds out.new }) result }
+        (λ a b. Took done (events_at (shown_program program).fields first_last lines.old) (feed_of lines.old a) b result)
+        × Wrote config.now.settings.groups config.now.settings.serial (shown_program program) done (record { old = K.holds out.old; new = K.holds out.new }) result }
     ensures counts { EndCounts (record { reads = S.faults input.old; writes = K.counts out.old }) (record { reads = S.faults input.new; writes = K.counts out.new }) result }
 {
     let Ok(mut room) = Room::new(alloc) else {
         return End::NoMemory;
     };
-    run_gathered::<S, K, Brand>(alloc, groups, program, lines, input, &mut room, out)
+    run_gathered::<S, K, Brand>(alloc, config, order, program, lines, input, &mut room, out)
 }
 
 /// Runs an input in a plain loop: reads the program section, then takes each event.
@@ -206,16 +283,18 @@ fn run_events<S: Source, K: Sink>(
 /// were written that the whole lines taken have, and none of these has a fault; at Write and NoMemory some first bytes of them. Nothing is written behind a write fault.
 pub fn run_task_alone<S: Source, K: Sink>(
     alloc: Global,
-    groups: u16,
+    config: &Config,
+    order: Nums,
     input: &mut S,
     out: &mut K,
 ) -> End
-    requires some { 1 ≤ groups }
-    requires most { groups ≤ 32768 }
+    requires ranges { InRange config.now.settings }
+    requires contexts { 0 < config.now.settings.in_flight }
+    requires batch { 0 < config.now.batch }
     ensures told { Told (S.left input.old) (S.left input.new)
-        (λ a b. RunEnds groups true (record { old = K.holds out.old; new = K.holds out.new }) (parse a) b result) }
+        (λ a b. RunEnds config.now.settings.groups config.now.settings.serial (record { old = K.holds out.old; new = K.holds out.new }) (parse a) b result) }
     ensures stopped { Told (S.left input.old) (S.left input.new)
-        (λ a b. Stops groups true (record { old = K.holds out.old; new = K.holds out.new }) a b result) }
+        (λ a b. Stops config.now.settings.groups config.now.settings.serial (record { old = K.holds out.old; new = K.holds out.new }) a b result) }
     ensures counts { EndCounts (record { reads = S.faults input.old; writes = K.counts out.old }) (record { reads = S.faults input.new; writes = K.counts out.new }) result }
 {
     let Ok(mut lines) = Lines::with_limit(alloc, MOST_BYTES) else {
@@ -226,7 +305,7 @@ pub fn run_task_alone<S: Source, K: Sink>(
         Err(fault) => return end_in_section(fault),
     };
     match read_program(alloc, section.lines.as_slice(), section.end) {
-        Ok(program) => run_events(alloc, groups, &program, &mut lines, input, out),
+        Ok(program) => run_events(alloc, config, order, program, &mut lines, input, out),
         Err(ProgFault::At { line, kind }) => End::Program { line, kind },
         Err(ProgFault::NoMemory) => End::NoMemory,
     }

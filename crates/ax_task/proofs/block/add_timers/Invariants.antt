@@ -1,0 +1,9 @@
+use Rattle.std.proofs.Common.{◌≡◌, ◌||◌, List, ℕ}
+use Rattle.std.specs.List.{list_any}
+use Rattle.std.specs.BTreeMap.{is_at}
+use Rattle.std.specs.BTreeSet.{contains}
+use Rattle.ax_keys.specs.Keys.{key_cmp}
+use Rattle.ax_task.proofs.block.add_timers.Given as goal
+
+abbrev pub invariant-loop-timer : goal.invariant-loop-timer
+invariant-loop-timer l = (q : List ℕ) → (contains key_cmp l.keys q || list_any (λ t. is_at (key_cmp q) t.key) l.timer-iterator.rest.items) ≡ (contains key_cmp l.fn.keys q || list_any (λ t. is_at (key_cmp q) t.key) l.timers)

@@ -1,0 +1,86 @@
+//! Requests go to shards, and replies come back.
+ghost use Rattle.std.specs.Prelude.{◌≡◌, ◌<◌, ◌↔◌, ℕ, [], length, true, false, IsTrue, IfOk, IfSome, IfNone, OnOk};
+ghost use Rattle.ax_buffer.specs.Buffer.{queue_of};
+ghost use Rattle.ax_task.specs.Shards.{held, out, Stays};
+ghost use Rattle.ax_task.specs.Engines.{IsReady, MovesOn};
+ghost use Rattle.ax_task.specs.Exchanged.{IsHomeWith, LessIsLeft, NothingWaits};
+
+use crate::engine::Engine;
+use ax_base::NoMemory;
+
+impl Engine {
+    // Whether a shard is home, and so many requests wait for it. Condition: it is one of the shards.
+    fn is_home_with(&self, shard: u16, least: u32) -> bool
+        requires ready { IsReady self.now }
+        requires shard { shard < self.now.settings.shards }
+        ensures { IsTrue result ↔ IsHomeWith self.now least shard }
+    {
+        self.core.active_len(shard) >= least && self.shards.is_home(shard)
+    }
+
+    // The first shard that is home, and for which so many requests wait.
+    fn home_with(&self, least: u32) -> Option<u16>
+        requires ready { IsReady self.now }
+        ensures some { IfSome result (λ s. IsHomeWith self.now least s) }
+        ensures none { IfNone result ((s : ℕ) → s < self.now.settings.shards → IsHomeWith self.now least s → ⊥) }
+        ensures below { IfSome result (λ s. s < self.now.settings.shards) }
+    {
+        for shard in 0..self.settings.shards {
+            if self.is_home_with(shard, least) {
+                return Some(shard);
+            }
+        }
+        None
+    }
+
+    // Sends a batch to a shard that is home. Condition: requests wait for it.
+    fn send(&mut self, shard: u16) -> Result<(), NoMemory>
+        requires ready { IsReady self.old }
+        requires shard { shard < self.old.settings.shards }
+        requires home { out self.old.shards shard ≡ [] }
+        requires waits { 0 < length (queue_of self.old.core.buffer shard) }
+        ensures moves { OnOk result (MovesOn self.old self.new) }
+        ensures falls { OnOk result (LessIsLeft self.old self.new) }
+    {
+        let batch = self.core.batch_for(shard, self.batch)?;
+        self.shards.send(shard, batch);
+        Ok(())
+    }
+
+    // Takes the replies to a batch. Whether one was out.
+    fn poll(&mut self) -> Result<bool, NoMemory>
+        requires ready { IsReady self.old }
+        ensures moves { OnOk result (MovesOn self.old self.new) }
+        ensures falls { IfOk result (λ done. done ≡ true → LessIsLeft self.old self.new) }
+        ensures settings { self.new.settings ≡ self.old.settings }
+        ensures core { IfOk result (λ done. done ≡ false → self.new.core ≡ self.old.core) }
+        ensures stays { IfOk result (λ done. done ≡ false → Stays (out self.old.shards) (out self.new.shards) (held self.old.shards) (held self.new.shards)) }
+        ensures home { IfOk result (λ done. done ≡ false → (s : ℕ) → out self.new.shards s ≡ []) }
+    {
+        let Some(back) = self.shards.poll() else {
+            return Ok(false);
+        };
+        self.core.deliver(back.replies?);
+        Ok(true)
+    }
+
+    /// Sends a batch to a shard that is home, a full one where there is one; and where there is none, a batch that is out is
+    /// served. Whether there was something to do.
+    pub fn exchange(&mut self) -> Result<bool, NoMemory>
+        requires ready { IsReady self.old }
+        ensures moves { OnOk result (MovesOn self.old self.new) }
+        ensures falls { IfOk result (λ done. done ≡ true → LessIsLeft self.old self.new) }
+        ensures idle { IfOk result (λ done. done ≡ false → self.new.core ≡ self.old.core) }
+        ensures nothing { IfOk result (λ done. done ≡ false → NothingWaits self.new) }
+    {
+        if let Some(shard) = self.home_with(self.batch) {
+            self.send(shard)?;
+            return Ok(true);
+        }
+        if let Some(shard) = self.home_with(1) {
+            self.send(shard)?;
+            return Ok(true);
+        }
+        self.poll()
+    }
+}
