@@ -8,3 +8,4 @@ pub mod Sections
 pub mod Laws
 pub mod Alike
 pub mod Handlers
+pub mod Examples

@@ -2,6 +2,7 @@
 #![tactic(auto)]
 
 mod blocks;
+pub mod examples;
 mod faults;
 mod kinds;
 pub mod laws;
