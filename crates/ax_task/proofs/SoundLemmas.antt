@@ -1,7 +1,7 @@
 -- Shards that are out and home: a batch is sent, and comes back.
 use Rattle.std.proofs.Common.{◌≡◌, ◌≢◌, ◌+◌, ◌<◌, ◌≤◌, ℕ, zero, suc, ℤ, Bool, true, false, cond, nat_eq, List, [], ◌∷◌, ◌++◌, length, get_or, set, replicate, Result, ◌⊎◌, inl, inr, refl, sym, ap, ap₂, ◌∙◌, subst, arith}
 use Rattle.std.proofs.lemmas.Bool.{cases_eq, cases_lt, eqb-true, eq-eqb}
-use Rattle.std.proofs.lemmas.List.{get_or-set_same, get_or-set_other, get_or-replicate, get_or_past, get_or_default, length-set, length-replicate, length-append}
+use Rattle.std.proofs.lemmas.List.{get_or-set_same, get_or-set_other, get_or_past, get_or_default, length-set, length-replicate, length-append}
 use Rattle.std.proofs.lemmas.List.Sums.{sum_by-cons, sum_by-le, sum_by-set, sum_by_push, sum_by-remove, get_or-le-sum_by}
 use Rattle.std.proofs.lemmas.List.Edits.{length-remove}
 use Rattle.std.specs.List.{sum_by, remove}
@@ -10,8 +10,8 @@ use Rattle.ax_text.specs.declared.vocabulary.Kind.{Kind}
 use Rattle.ax_text.specs.Functions.{upd}
 use Rattle.ax_buffer.specs.declared.items.Item.{Item}
 use Rattle.ax_buffer.specs.declared.items.Reply.{Reply}
-use Rattle.ax_task.specs.Serving.{Content, Serves, AllFit, Holding, content_of}
-use Rattle.ax_task.specs.Shards.{Serving, nothing_held, holding_of, held, out, Stays, Came, one_if_out, times_sent, AreSound}
+use Rattle.ax_task.specs.Serving.{Serves, AllFit, Holding, content_of}
+use Rattle.ax_task.specs.Shards.{Serving, nothing_held, holding_of, held, out, Came, one_if_out, times_sent, AreSound}
 
 -- ---- numbers and lists
 

@@ -1,4 +1,4 @@
-use Rattle.std.proofs.Common.{true, false, ◌≡◌, refl, sym, ◌∙◌}
+use Rattle.std.proofs.Common.{sym, ◌∙◌}
 use Rattle.std.specs.Io.KnownBytes.{append_known}
 use Rattle.ax_task.proofs.EngineLemmas.{some_none, writes_none, quiet_if, true_false}
 use Rattle.ax_task.proofs.engine.Engine.work.Goals as goal

@@ -1,9 +1,8 @@
-use Rattle.std.proofs.Common.{◌≡◌, ◌∙◌, ◌<◌, ◌≤◌, [], List, ℕ, length, get_or, set, ap, refl, sym, subst, arith}
+use Rattle.std.proofs.Common.{◌≡◌, ◌∙◌, ◌<◌, List, length, get_or, set, ap, sym, arith}
 use Rattle.std.proofs.lemmas.List.{get_or_default, length-set}
 use Rattle.ax_buffer.specs.declared.items.Item.{Item}
 use Rattle.ax_state.specs.Decls.{kinds}
-use Rattle.ax_task.specs.Serving.{Holding}
-use Rattle.ax_task.specs.Shards.{Serving, AreSound}
+use Rattle.ax_task.specs.Shards.{Serving}
 use Rattle.ax_task.proofs.SoundLemmas.{there, fits_there, kinds_are, sound_behind, came_behind}
 use Rattle.ax_task.proofs.shards.Shards.poll.Goals as goal
 
