@@ -26,3 +26,4 @@ pub mod TaskLemmas
 pub mod ReadingLemmas
 pub mod Snapping
 pub mod Sending
+pub mod Idle
