@@ -1,5 +1,5 @@
 -- What each thing that an engine does makes of a run.
-use Rattle.std.proofs.Common.{◌≡◌, ◌<◌, ◌⊎◌, inl, inr, ℕ, ℤ, zero, suc, ◌+◌, int_lt, Bool, true, false, List, [], ◌∷◌, ◌++◌, length, get_or, Option, Some, None, refl, sym, ap, ap₂, ◌∙◌, subst, arith}
+use Rattle.std.proofs.Common.{◌≡◌, ◌<◌, ◌⊎◌, inl, inr, ℕ, ℤ, zero, suc, ◌+◌, int_lt, Bool, true, false, List, [], ◌∷◌, ◌++◌, length, get_or, Option, Some, None, Result, Ok, Err, OnOk, IfOk, refl, sym, ap, ap₂, ◌∙◌, subst, arith}
 use Rattle.std.proofs.lemmas.List.{append-nil}
 use Rattle.std.specs.List.{Contains}
 use Rattle.std.specs.Io.KnownBytes.{Appends}
@@ -287,3 +287,18 @@ ready_sent e e' d sound same outs keys k h r = record {
 -- nothing is left to do between events
 pub quiet : (a b : Controller) → b ≡ a → ((m : MachineControl) → StandsFor a m → MayFireOn a m → ⊥) → ((m : MachineControl) → StandsFor b m → FirstIsFinishedOn m.unsent m → ⊥) → IsQuiet b
 quiet a b same fires sends = record { fires = subst (λ (d : Controller). (m : MachineControl) → StandsFor d m → MayFireOn d m → ⊥) (sym same) fires; sends = sends }
+
+-- an epoch is closed, if memory is there
+pub close_ok : {E : Type 0} (e e' : Engine) → SameDesk e e' → (k : Marker) → (r : Result (Unit {0}) E) → OnOk r (IsSound e'.core) → OnOk r (SameRules e.core e'.core) → OnOk r (e'.core.outs ≡ e.core.outs) → OnOk r (KeysStay e.core e'.core)
+    → OnOk r ((m : MachineControl) → StandsFor e.core m → Makes e.core e'.core (Close (closing_of k)) m) → OnOk r (Takes e e' (marker_event k))
+close_ok e e' d k (Ok x) sound same outs keys event = close_takes e e' d sound same outs keys k event
+close_ok e e' d k (Err x) sound same outs keys event = tt
+
+pub true_false : true ≡ false → ⊥
+true_false e = cc e
+
+-- the same, where a marker was looked for
+pub quiet_if : {E : Type 0} (a b : Controller) (r : Result Bool E) → IfOk r (λ sent. sent ≡ false → (m : MachineControl) → StandsFor b m → FirstIsFinishedOn m.unsent m → ⊥) → IfOk r (λ sent. sent ≡ false → b ≡ a)
+    → ((m : MachineControl) → StandsFor a m → MayFireOn a m → ⊥) → IfOk r (λ sent. sent ≡ false → IsQuiet b)
+quiet_if a b (Ok x) none same fires = λ e. quiet a b (same e) fires (none e)
+quiet_if a b (Err e) none same fires = tt

@@ -1,12 +1,12 @@
 -- A task goes on step by step, and ends.
-use Rattle.std.proofs.Common.{◌≡◌, ℕ, List, [], ◌∷◌, ◌++◌, ◌⊎◌, inl, inr, Bool, true, false, Option, Some, None, Result, Ok, Err, refl, sym, ap, ◌∙◌, subst}
+use Rattle.std.proofs.Common.{◌≡◌, ℕ, ℤ, List, [], ◌∷◌, ◌++◌, ◌⊎◌, inl, inr, Bool, true, false, Option, Some, None, Result, Ok, Err, refl, sym, ap, ◌∙◌, subst}
 use Rattle.std.proofs.lemmas.List.{append-nil}
 use Rattle.std.specs.Io.KnownBytes.{Appends}
 use Rattle.ax_base.specs.Outside.{RoseByOne, Counts, Told, AppendsSome, OwnCounts}
 use Rattle.ax_base.specs.Reader.{Reader}
 use Rattle.ax_base.specs.declared.outside.SinkFault.{SinkFault}
 use Rattle.ax_base.specs.declared.outside.SinkFault.TheVariants as sink
-use Rattle.ax_base.proofs.OutsideLemmas.{Appends-more, Told-map}
+use Rattle.ax_base.proofs.OutsideLemmas.{Appends-none, Appends-more, Told-map}
 use Rattle.ax_machine.specs.Entries.{Entry, text_of}
 use Rattle.ax_machine.specs.Events.{Event}
 use Rattle.ax_machine.specs.Lawful.{LawfulFor, LawfulSoFarFor}
@@ -19,6 +19,7 @@ use Rattle.ax_core.specs.declared.settings.Settings.{Settings}
 use Rattle.ax_execution.specs.MachineControls.{MachineControl, in_flight_on}
 use Rattle.ax_core.specs.Sound.{StandsFor}
 use Rattle.ax_task.specs.Clause.{WritesLawful, WritesPart, StreamEnds, EndCounts, MayRise}
+use Rattle.ax_task.specs.Parse.{Stream, first_last}
 use Rattle.ax_task.specs.Reads.{sink_end}
 use Rattle.ax_task.specs.Passes.{events_at, Taken, Took}
 use Rattle.ax_task.specs.Passes as passes
@@ -31,7 +32,8 @@ use Rattle.ax_task.specs.declared.engine.Engine.{Engine}
 use Rattle.ax_task.specs.declared.reading.Reading.{Reading}
 use Rattle.ax_task.proofs.Written.{AppendsSome-none, AppendsSome-behind}
 use Rattle.ax_task.proofs.EngineLemmas.{so_far_here, some_none, rest_is_whole}
-use Rattle.ax_task.proofs.Knowing.{known_taken, ends_found, stops_found}
+use Rattle.ax_task.proofs.Progress.{stops_once}
+use Rattle.ax_task.proofs.Knowing.{known_first, known_taken, ends_found, stops_found}
 
 -- how often reading failed, where memory is short or writing failed
 may_rise : (before now : ℕ) (found : Option End) → FoundCounts before now found → MayRise before now
@@ -43,9 +45,9 @@ may_rise before now (Some end.Read) c = inr c
 may_rise before now (Some end.Write) c = inl c
 may_rise before now (Some end.NoMemory) c = inl c
 
-cut_counts : (r r' : ℕ) (w w' : Counts) (f : SinkFault) → MayRise r r' → OwnCounts {T = Unit {0}} w w' (Err f) → EndCounts (record { reads = r; writes = w }) (record { reads = r'; writes = w' }) (sink_end f)
-cut_counts r r' w w' sink.Failed m c = (m, c.0, c.1)
-cut_counts r r' w w' sink.NoMemory m c = (m, c.0, c.1)
+cut_counts : {T : Type 0} (r r' : ℕ) (w w' : Counts) (f : SinkFault) → MayRise r r' → OwnCounts {T = T} w w' (Err f) → EndCounts (record { reads = r; writes = w }) (record { reads = r'; writes = w' }) (sink_end f)
+cut_counts {T} r r' w w' sink.Failed m c = (m, c.0, c.1)
+cut_counts {T} r r' w w' sink.NoMemory m c = (m, c.0, c.1)
 
 found_counts : (r r' : ℕ) (w w' : Counts) (e : End) → IsInputEnd e → FoundCounts r r' (Some e) → w' ≡ w → EndCounts (record { reads = r; writes = w }) (record { reads = r'; writes = w' }) e
 found_counts r r' w w' end.Ok i c same = (c, same)
@@ -103,13 +105,13 @@ module _ (s : Settings) (p : Program) (from : From) (e : Engine) (r : Reading) (
   seen = x.read ++ held_events r.next
 
   -- the run is cut off: the sink has some of what may be written for the events that were read
-  ends_cut : (f : SinkFault) (l' : Option (List ℕ)) (reads' : ℕ) (h' : Option (List ℕ)) (w' : Counts) → Told from.outer.left l' (λ a b. Taken seen from.means (record { held = from.held; left = a }) b)
-      → MayRise from.outer.reads reads' → WritesSome e now.holds h' → OwnCounts {T = Unit {0}} now.writes w' (Err f)
+  ends_cut : {T : Type 0} (f : SinkFault) (l' : Option (List ℕ)) (reads' : ℕ) (h' : Option (List ℕ)) (w' : Counts) → Told from.outer.left l' (λ a b. Taken seen from.means (record { held = from.held; left = a }) b)
+      → MayRise from.outer.reads reads' → WritesSome e now.holds h' → OwnCounts {T = T} now.writes w' (Err f)
       → HasEnded s p from (record { left = l'; reads = reads'; holds = h'; writes = w' }) (sink_end f)
-  ends_cut f l' reads' h' w' taken rise some counts = record {
+  ends_cut {T} f l' reads' h' w' taken rise some counts = record {
     told = told_cut f l' taken;
     stopped = (seen, took f l' taken, wrote f);
-    counts = cut_counts from.outer.reads reads' from.outer.writes w' f rise (subst (λ (w : Counts). OwnCounts {T = Unit {0}} w w' (Err f)) x.writes counts);
+    counts = cut_counts {T} from.outer.reads reads' from.outer.writes w' f rise (subst (λ (w : Counts). OwnCounts {T = T} w w' (Err f)) x.writes counts);
   }
     where
       y : WroteSome s p x.read x.written now.holds h'
@@ -141,17 +143,17 @@ module _ (s : Settings) (p : Program) (from : From) (e : Engine) (r : Reading) (
   taken_here = known_taken from.means (events_at r.events.fields r.events.last lines) from.held lines.held from.outer.left now.left seen r.found x.has_read.knows
 
   -- a line could not be written, or memory was short for it
-  pub broke_off : (f : SinkFault) (h' : Option (List ℕ)) (w' : Counts) → WritesSome e now.holds h' → OwnCounts {T = Unit {0}} now.writes w' (Err f)
+  pub broke_off : {T : Type 0} (f : SinkFault) (h' : Option (List ℕ)) (w' : Counts) → WritesSome e now.holds h' → OwnCounts {T = T} now.writes w' (Err f)
       → HasEnded s p from (record { left = now.left; reads = now.reads; holds = h'; writes = w' }) (sink_end f)
-  broke_off f h' w' some counts = ends_cut f now.left now.reads h' w' taken_here (may_rise from.outer.reads now.reads r.found x.has_read.counts) some counts
+  broke_off {T} f h' w' some counts = ends_cut {T} f now.left now.reads h' w' taken_here (may_rise from.outer.reads now.reads r.found x.has_read.counts) some counts
 
   -- memory was short elsewhere
   pub short_here : HasEnded s p from now end.NoMemory
-  short_here = broke_off sink.NoMemory now.holds now.writes (some_none e now.holds) (refl, inl refl)
+  short_here = broke_off {Unit {0}} sink.NoMemory now.holds now.writes (some_none e now.holds) (refl, inl refl)
 
   -- memory was short as the next event was read
   pub short_read : (l' : Option (List ℕ)) → ReadsShort r lines now.left l' now.reads → HasEnded s p from (record { left = l'; reads = now.reads; holds = now.holds; writes = now.writes }) end.NoMemory
-  short_read l' o = ends_cut sink.NoMemory l' now.reads now.holds now.writes (o from x.read x.has_read) (may_rise from.outer.reads now.reads r.found x.has_read.counts) (some_none e now.holds) (refl, inl refl)
+  short_read l' o = ends_cut {Unit {0}} sink.NoMemory l' now.reads now.holds now.writes (o from x.read x.has_read) (may_rise from.outer.reads now.reads r.found x.has_read.counts) (some_none e now.holds) (refl, inl refl)
 
   -- nothing is left to do
   pub ended_well : (end : End) → r.found ≡ Some end → r.next ≡ None → IsQuiet e.core → ((m : MachineControl) → StandsFor e.core m → in_flight_on m ≡ 0) → HasEnded s p from now end
@@ -176,3 +178,44 @@ module _ (s : Settings) (p : Program) (from : From) (e : Engine) (r : Reading) (
       all : WritesLawful s.groups s.serial (shown_program p) seen (record { old = from.outer.holds; new = now.holds })
       all = subst (λ (es : List Event). WritesLawful s.groups s.serial (shown_program p) es (record { old = from.outer.holds; new = now.holds })) seen_is
           (x.written, rest_is_whole s p e x.read x.written x.stands quiet done, x.grown)
+
+-- nothing has changed
+pub same_underway : (s : Settings) (p : Program) (from : From) (e e' : Engine) (r r' : Reading) (lines : Reader) (now : Outer) → (e' ≡ e) × (r' ≡ r) → IsUnderway s p from e r lines now → IsUnderway s p from e' r' lines now
+same_underway s p from e e' r r' lines now h x = subst (λ (d : Engine). IsUnderway s p from d r' lines now) (sym h.0) (subst (λ (q : Reading). IsUnderway s p from e q lines now) (sym h.1) x)
+
+-- before the first step
+pub starts : (s : Settings) (p : Program) (e : Engine) (r : Reading) (lines : Reader) (now : Outer) → Stands s p e [] [] → r.events.fields ≡ (shown_program p).fields → r.events.last ≡ first_last → r.next ≡ None → r.found ≡ None → lines.failed ≡ false
+    → IsUnderway s p (record { means = events_at (shown_program p).fields first_last lines; held = lines.held; outer = now }) e r lines now
+starts s p e r lines now x fields last next found may = record {
+  read = [];
+  written = [];
+  stands = x;
+  grown = Appends-none now.holds;
+  has_read = record {
+    knows =
+        subst (λ (o : Option End). Told now.left now.left (λ a b. Knows F (events_at r.events.fields r.events.last lines) ([] ++ held_events r.next) (record { held = lines.held; left = a }) (record { held = lines.held; left = b }) o)) (sym found)
+        (subst (λ (o : Option CodeEvent). Told now.left now.left (λ a b. Knows F (events_at r.events.fields r.events.last lines) ([] ++ held_events o) (record { held = lines.held; left = a }) (record { held = lines.held; left = b }) None)) (sym next)
+        (subst (λ (n : ℤ). Told now.left now.left (λ a b. Knows F (events_at r.events.fields n lines) [] (record { held = lines.held; left = a }) (record { held = lines.held; left = b }) None)) (sym last)
+        (subst (λ (n : ℕ). Told now.left now.left (λ a b. Knows F (events_at n first_last lines) [] (record { held = lines.held; left = a }) (record { held = lines.held; left = b }) None)) (sym fields)
+        (known_first F lines.held now.left))));
+    found = subst IsFound (sym found) tt;
+    counts = subst (FoundCounts now.reads now.reads) (sym found) refl;
+    may = subst (λ (o : Option End). MayRead lines o) (sym found) may;
+  };
+  writes = refl;
+}
+  where
+    F : List ℕ → Stream
+    F = events_at (shown_program p).fields first_last lines
+
+told_unit : (l : Option (List ℕ)) → Told l l (λ a b. Unit {0})
+told_unit None = tt
+told_unit (Some a) = tt
+
+-- memory was short before the first step
+pub ends_at_once : (s : Settings) (p : Program) (lines : Reader) (now : Outer) → HasEnded s p (record { means = events_at (shown_program p).fields first_last lines; held = lines.held; outer = now }) now end.NoMemory
+ends_at_once s p lines now = record {
+  told = told_unit now.left;
+  stopped = stops_once s.groups s.serial (shown_program p) (events_at (shown_program p).fields first_last lines) lines.held now.left now.holds;
+  counts = (inl refl, refl, inl refl);
+}

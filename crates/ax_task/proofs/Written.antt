@@ -3,7 +3,7 @@ use Rattle.std.proofs.Common.{◌≡◌, ℕ, ℤ, ◌+◌, ◌<◌, List, [], �
 use Rattle.std.proofs.lemmas.List.{append-nil, take-append-drop, take_at, take_all, at_drop_more}
 use Rattle.std.specs.Io.KnownBytes.{Appends}
 use Rattle.ax_base.proofs.OutsideLemmas.{Appends-none, Appends-more}
-use Rattle.ax_base.specs.Outside.{AppendsSome, Counts, WriteCounts, OwnCounts}
+use Rattle.ax_base.specs.Outside.{AppendsSome, AppendsPart, Counts, WriteCounts, OwnCounts}
 use Rattle.ax_base.specs.declared.outside.SinkFault.{SinkFault}
 use Rattle.ax_base.specs.declared.outside.SinkFault.TheVariants as fault
 use Rattle.ax_machine.specs.Entries.{Key, Out, says, text_of, entry_text}
@@ -77,3 +77,7 @@ on_ok (Err e) p f = tt
 pub on_err : {T E P Q : Type 0} (r : Result T E) → OnErr r P → (P → Q) → OnErr r Q
 on_err (Ok x) p f = tt
 on_err (Err e) p f = f p
+
+-- a proper prefix is a prefix
+pub some_of_part : (a b : Option (List ℕ)) (x : List ℕ) → AppendsPart a b x → AppendsSome a b x
+some_of_part a b x p = (p.0, p.2)

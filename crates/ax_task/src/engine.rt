@@ -1,5 +1,5 @@
 //! The controller with its shards: what there is to do between two events.
-ghost use Rattle.std.specs.Prelude.{◌≡◌, ◌<◌, [], true, false, IfOk, OnOk, OnErr};
+ghost use Rattle.std.specs.Prelude.{◌≡◌, ◌<◌, [], true, false, int_lt, IfOk, OnOk, OnErr};
 ghost use Rattle.std.specs.Io.KnownBytes.{append_known};
 ghost use Rattle.ax_base.specs.Outside.{OwnCounts};
 ghost use Rattle.ax_machine.specs.Events.{Mark};
@@ -18,6 +18,20 @@ use ax_core::{Controller, Marker, Settings};
 use ax_input::Event;
 use ax_lang::Program;
 use std::alloc::Global;
+
+// The marker of a watermark.
+fn mark(time: &i64) -> Marker
+    ensures { result ≡ Marker.Mark time.now }
+{
+    Marker::Mark { time: *time }
+}
+
+// The marker of a barrier.
+fn barrier(id: &i64) -> Marker
+    ensures { result ≡ Marker.Barrier id.now }
+{
+    Marker::Barrier { id: *id }
+}
 
 /// The controller, the shards that serve its requests, and room for the text of a line.
 #[derive(Drop)]
@@ -213,19 +227,27 @@ impl Engine {
                 self.core.admit(key, time, values)?;
                 Ok(())
             }
-            Event::Mark { time } => self.take_watermark(time),
-            Event::Barrier { id } => self.core.close(Marker::Barrier { id }),
+            Event::Mark { time } => self.take_watermark(&time),
+            Event::Barrier { id } => self.core.close(barrier(&id)),
         }
     }
 
+    // Whether a watermark is greater than the last.
+    fn is_greater(&self, time: &i64) -> bool
+        requires { IsReady self.now }
+        ensures { result ≡ int_lt self.now.core.wm time.now }
+    {
+        self.core.wm() < *time
+    }
+
     // Takes a watermark. Condition: an epoch may be closed.
-    fn take_watermark(&mut self, time: i64) -> Result<(), NoMemory>
+    fn take_watermark(&mut self, time: &i64) -> Result<(), NoMemory>
         requires ready { IsReady self.old }
         requires may { may_close self.old.core ≡ true }
-        ensures { OnOk result (Takes self.old self.new (Mark time)) }
+        ensures { OnOk result (Takes self.old self.new (Mark time.now)) }
     {
-        if self.core.wm() < time {
-            self.core.close(Marker::Mark { time })
+        if self.is_greater(time) {
+            self.core.close(mark(time))
         } else {
             Ok(())
         }

@@ -1,0 +1,40 @@
+use Rattle.std.proofs.Common.{sym, subst}
+use Rattle.std.specs.Io.KnownBytes.{append_known}
+use Rattle.ax_task.specs.Tasks.{Outer, HasEnded}
+use Rattle.ax_task.specs.declared.end.End.{End}
+use Rattle.ax_task.proofs.EngineLemmas.{ready_behind}
+use Rattle.ax_task.proofs.TaskLemmas.{went_on, broke_off}
+use Rattle.ax_task.proofs.task.Task.work_on.Goals as goal
+
+pub read_on-requires-clause-ready : goal.read_on-requires-clause-ready
+read_on-requires-clause-ready g c =
+    let held = g.K.Sink.holds in
+    ready_behind c.args.self.now.engine c.work.new.self c.requires.ready (append_known (held c.args.out.now.inner.now) c.args.out.now.room.now) (append_known (held c.work.new.out.inner.now) c.work.new.out.room.now) c.in-Ok-false.ensures.writes
+
+pub returns-in-Ok-true-clause-steps : goal.returns-in-Ok-true-clause-steps
+returns-in-Ok-true-clause-steps g c = λ s p from x.
+    let held = g.K.Sink.holds in
+    let counts = g.K.Sink.counts in
+    let now : Outer = record { left = g.S.Source.left c.args.input.now; reads = g.S.Source.faults c.args.input.now; holds = append_known (held c.args.out.now.inner.now) c.args.out.now.room.now; writes = counts c.args.out.now.inner.now } in
+    let h = append_known (held c.work.new.out.inner.now) c.work.new.out.room.now in
+    let w = counts c.work.new.out.inner.now in
+    went_on s p from c.args.self.now.engine c.args.self.now.reading c.args.lines.now now x c.work.new.self h w c.in-Ok-true.ensures.writes c.in-Ok-true.ensures.counts
+
+pub returns-in-Ok-false-clause-steps : goal.returns-in-Ok-false-clause-steps
+returns-in-Ok-false-clause-steps g c = λ s p from x.
+    let held = g.K.Sink.holds in
+    let counts = g.K.Sink.counts in
+    let now : Outer = record { left = g.S.Source.left c.args.input.now; reads = g.S.Source.faults c.args.input.now; holds = append_known (held c.args.out.now.inner.now) c.args.out.now.room.now; writes = counts c.args.out.now.inner.now } in
+    let h = append_known (held c.work.new.out.inner.now) c.work.new.out.room.now in
+    let w = counts c.work.new.out.inner.now in
+    c.read_on.ensures h w s p from (went_on s p from c.args.self.now.engine c.args.self.now.reading c.args.lines.now now x c.work.new.self h w c.in-Ok-false.ensures.writes c.in-Ok-false.ensures.counts)
+
+pub returns-in-Err-clause-steps : goal.returns-in-Err-clause-steps
+returns-in-Err-clause-steps g c = λ s p from x.
+    let held = g.K.Sink.holds in
+    let counts = g.K.Sink.counts in
+    let now : Outer = record { left = g.S.Source.left c.args.input.now; reads = g.S.Source.faults c.args.input.now; holds = append_known (held c.args.out.now.inner.now) c.args.out.now.room.now; writes = counts c.args.out.now.inner.now } in
+    let h = append_known (held c.work.new.out.inner.now) c.work.new.out.room.now in
+    let w = counts c.work.new.out.inner.now in
+    subst (λ (e : End). HasEnded s p from (record { left = now.left; reads = now.reads; holds = h; writes = w }) e) (sym c.end_of.ensures)
+    (broke_off s p from c.args.self.now.engine c.args.self.now.reading c.args.lines.now now x c.in-Err.fault h w c.in-Err.ensures.part c.in-Err.ensures.counts)
