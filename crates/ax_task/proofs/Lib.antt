@@ -27,3 +27,5 @@ pub mod ReadingLemmas
 pub mod Snapping
 pub mod Sending
 pub mod Idle
+pub mod Lesser
+pub mod Going
