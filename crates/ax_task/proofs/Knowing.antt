@@ -1,7 +1,6 @@
 -- What a task knows of its input, from its first event to its end.
-use Rattle.std.proofs.Common.{◌≡◌, ℕ, List, [], ◌∷◌, ◌++◌, Bool, true, Option, Some, None, Err, refl, sym, ap, ◌∙◌, append_assoc, subst}
+use Rattle.std.proofs.Common.{◌≡◌, ℕ, List, [], ◌∷◌, ◌++◌, Bool, Option, Some, None, Err, refl, sym, ap, ◌∙◌, append_assoc, subst}
 use Rattle.std.proofs.lemmas.List.{append-nil}
-use Rattle.ax_base.specs.Lines.{no_feed}
 use Rattle.ax_base.specs.Outside.{Told, AppendsSome}
 use Rattle.std.specs.Io.KnownBytes.{Appends}
 use Rattle.ax_base.proofs.OutsideLemmas.{Told-trans, Told-map}
@@ -17,9 +16,9 @@ use Rattle.ax_core.specs.declared.settings.Settings.{Settings}
 use Rattle.ax_core.specs.declared.controller.Controller.{Controller}
 use Rattle.ax_task.proofs.Written.{AppendsSome-behind}
 use Rattle.ax_task.specs.Parse.{Stream, Ending, Clean, Fault, with_event, ends}
-use Rattle.ax_task.specs.Clause.{Holds, WritesLawful, WritesPart, StreamEnds}
+use Rattle.ax_task.specs.Clause.{WritesLawful, WritesPart, StreamEnds}
 use Rattle.ax_task.specs.Reads.{NextOf, end_in_stream}
-use Rattle.ax_task.specs.Passes.{Feed, to_come, Passed, SomePassed, NextPasses, in_front, Taken, Took, Wrote}
+use Rattle.ax_task.specs.Passes.{Feed, SomePassed, NextPasses, in_front, Taken, Took, Wrote}
 use Rattle.ax_task.specs.Known.{Knows, IsInputEnd}
 use Rattle.ax_task.specs.Refined.{Refines}
 use Rattle.ax_task.specs.Serving.{Content}

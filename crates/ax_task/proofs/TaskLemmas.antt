@@ -45,9 +45,9 @@ may_rise before now (Some end.Read) c = inr c
 may_rise before now (Some end.Write) c = inl c
 may_rise before now (Some end.NoMemory) c = inl c
 
-cut_counts : {T : Type 0} (r r' : ℕ) (w w' : Counts) (f : SinkFault) → MayRise r r' → OwnCounts {T = T} w w' (Err f) → EndCounts (record { reads = r; writes = w }) (record { reads = r'; writes = w' }) (sink_end f)
-cut_counts {T} r r' w w' sink.Failed m c = (m, c.0, c.1)
-cut_counts {T} r r' w w' sink.NoMemory m c = (m, c.0, c.1)
+cut_counts : (T : Type 0) (r r' : ℕ) (w w' : Counts) (f : SinkFault) → MayRise r r' → OwnCounts {T = T} w w' (Err f) → EndCounts (record { reads = r; writes = w }) (record { reads = r'; writes = w' }) (sink_end f)
+cut_counts T r r' w w' sink.Failed m c = (m, c.0, c.1)
+cut_counts T r r' w w' sink.NoMemory m c = (m, c.0, c.1)
 
 found_counts : (r r' : ℕ) (w w' : Counts) (e : End) → IsInputEnd e → FoundCounts r r' (Some e) → w' ≡ w → EndCounts (record { reads = r; writes = w }) (record { reads = r'; writes = w' }) e
 found_counts r r' w w' end.Ok i c same = (c, same)
@@ -105,13 +105,13 @@ module _ (s : Settings) (p : Program) (from : From) (e : Engine) (r : Reading) (
   seen = x.read ++ held_events r.next
 
   -- the run is cut off: the sink has some of what may be written for the events that were read
-  ends_cut : {T : Type 0} (f : SinkFault) (l' : Option (List ℕ)) (reads' : ℕ) (h' : Option (List ℕ)) (w' : Counts) → Told from.outer.left l' (λ a b. Taken seen from.means (record { held = from.held; left = a }) b)
+  ends_cut : (T : Type 0) (f : SinkFault) (l' : Option (List ℕ)) (reads' : ℕ) (h' : Option (List ℕ)) (w' : Counts) → Told from.outer.left l' (λ a b. Taken seen from.means (record { held = from.held; left = a }) b)
       → MayRise from.outer.reads reads' → WritesSome e now.holds h' → OwnCounts {T = T} now.writes w' (Err f)
       → HasEnded s p from (record { left = l'; reads = reads'; holds = h'; writes = w' }) (sink_end f)
-  ends_cut {T} f l' reads' h' w' taken rise some counts = record {
+  ends_cut T f l' reads' h' w' taken rise some counts = record {
     told = told_cut f l' taken;
     stopped = (seen, took f l' taken, wrote f);
-    counts = cut_counts {T} from.outer.reads reads' from.outer.writes w' f rise (subst (λ (w : Counts). OwnCounts {T = T} w w' (Err f)) x.writes counts);
+    counts = cut_counts T from.outer.reads reads' from.outer.writes w' f rise (subst (λ (w : Counts). OwnCounts {T = T} w w' (Err f)) x.writes counts);
   }
     where
       y : WroteSome s p x.read x.written now.holds h'
@@ -143,29 +143,26 @@ module _ (s : Settings) (p : Program) (from : From) (e : Engine) (r : Reading) (
   taken_here = known_taken from.means (events_at r.events.fields r.events.last lines) from.held lines.held from.outer.left now.left seen r.found x.has_read.knows
 
   -- a line could not be written, or memory was short for it
-  pub broke_off : {T : Type 0} (f : SinkFault) (h' : Option (List ℕ)) (w' : Counts) → WritesSome e now.holds h' → OwnCounts {T = T} now.writes w' (Err f)
+  pub broke_off : (T : Type 0) (f : SinkFault) (h' : Option (List ℕ)) (w' : Counts) → WritesSome e now.holds h' → OwnCounts {T = T} now.writes w' (Err f)
       → HasEnded s p from (record { left = now.left; reads = now.reads; holds = h'; writes = w' }) (sink_end f)
-  broke_off {T} f h' w' some counts = ends_cut {T} f now.left now.reads h' w' taken_here (may_rise from.outer.reads now.reads r.found x.has_read.counts) some counts
+  broke_off T f h' w' some counts = ends_cut T f now.left now.reads h' w' taken_here (may_rise from.outer.reads now.reads r.found x.has_read.counts) some counts
 
   -- memory was short elsewhere
   pub short_here : HasEnded s p from now end.NoMemory
-  short_here = broke_off {Unit {0}} sink.NoMemory now.holds now.writes (some_none e now.holds) (refl, inl refl)
+  short_here = broke_off (Unit {0}) sink.NoMemory now.holds now.writes (some_none e now.holds) (refl, inl refl)
 
   -- memory was short as the next event was read
   pub short_read : (l' : Option (List ℕ)) → ReadsShort r lines now.left l' now.reads → HasEnded s p from (record { left = l'; reads = now.reads; holds = now.holds; writes = now.writes }) end.NoMemory
-  short_read l' o = ends_cut {Unit {0}} sink.NoMemory l' now.reads now.holds now.writes (o from x.read x.has_read) (may_rise from.outer.reads now.reads r.found x.has_read.counts) (some_none e now.holds) (refl, inl refl)
+  short_read l' o = ends_cut (Unit {0}) sink.NoMemory l' now.reads now.holds now.writes (o from x.read x.has_read) (may_rise from.outer.reads now.reads r.found x.has_read.counts) (some_none e now.holds) (refl, inl refl)
 
   -- nothing is left to do
   pub ended_well : (end : End) → r.found ≡ Some end → r.next ≡ None → IsQuiet e.core → ((m : MachineControl) → StandsFor e.core m → in_flight_on m ≡ 0) → HasEnded s p from now end
   ended_well end found none quiet done = record {
-    told = ends_found from.means G from.held lines.held from.outer.left now.left seen s.groups s.serial (shown_program p) from.outer.holds now.holds end known all;
-    stopped = stops_found from.means G from.held lines.held from.outer.left now.left seen s.groups s.serial (shown_program p) from.outer.holds now.holds end is known all;
+    told = ends_found from.means (events_at r.events.fields r.events.last lines) from.held lines.held from.outer.left now.left seen s.groups s.serial (shown_program p) from.outer.holds now.holds end known all;
+    stopped = stops_found from.means (events_at r.events.fields r.events.last lines) from.held lines.held from.outer.left now.left seen s.groups s.serial (shown_program p) from.outer.holds now.holds end is known all;
     counts = found_counts from.outer.reads now.reads from.outer.writes now.writes end is (subst (FoundCounts from.outer.reads now.reads) found x.has_read.counts) x.writes;
   }
     where
-      G : _
-      G = events_at r.events.fields r.events.last lines
-
       is : IsInputEnd end
       is = subst IsFound found x.has_read.found
 

@@ -1,12 +1,10 @@
 -- Shards that serve batches: which of them are out, and what each holds.
-use Rattle.std.specs.Prelude.{◌≡◌, ◌≢◌, ◌<◌, ◌≤◌, ℕ, ◌+◌, ◌%◌, ◌^◌, ℤ, nat_eq, List, [], ◌∷◌, length, drop, replicate, Result}
+use Rattle.std.specs.Prelude.{◌≡◌, ◌≢◌, ◌<◌, ℕ, ◌%◌, ◌^◌, ℤ, nat_eq, List, [], ◌∷◌, length, drop, Result}
 use Rattle.std.specs.Int.{w64, cast_unsigned}
 use Rattle.std.specs.List.{slice_index_or, sum_by, count_by, remove}
 use Rattle.ax_base.specs.declared.outside.NoMemory.{NoMemory}
 use Rattle.ax_text.specs.declared.vocabulary.Kind.{Kind}
 use Rattle.ax_text.specs.Functions.{upd}
-use Rattle.ax_text.specs.Cells.{Cells}
-use Rattle.ax_machine.specs.Entries.{Key}
 use Rattle.ax_buffer.specs.declared.items.Item.{Item}
 use Rattle.ax_buffer.specs.declared.items.Reply.{Reply}
 use Rattle.ax_task.specs.Serving.{Content, Serves, Holding, content_of, AllFit}

@@ -7,6 +7,7 @@ use Rattle.ax_task.proofs.task.run_events.Goals as goal
 
 pub returns-in_default-clause-stopped : goal.returns-in_default-clause-stopped
 returns-in_default-clause-stopped g c =
-    let p = shown_program c.args.program.now in
+    let s = c.args.config.now.settings in
+    let p = shown_program c.args.program in
     let lines = c.args.lines.now in
-    stops_once c.args.groups true p (events_at p.fields first_last lines) lines.held (g.S.Source.left c.args.input.now) (g.K.Sink.holds c.args.out.now)
+    stops_once s.groups s.serial p (events_at p.fields first_last lines) lines.held (g.S.Source.left c.args.input.now) (g.K.Sink.holds c.args.out.now)

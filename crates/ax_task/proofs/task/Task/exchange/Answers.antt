@@ -1,4 +1,4 @@
-use Rattle.std.proofs.Common.{refl, arith}
+use Rattle.std.proofs.Common.{◌≡◌, true, rules, arith}
 use Rattle.ax_task.proofs.TaskLemmas.{moved_on, short_here}
 use Rattle.ax_task.proofs.task.Task.exchange.Goals as goal
 
@@ -13,4 +13,6 @@ pub returns-in-Err-clause-steps : goal.returns-in-Err-clause-steps
 returns-in-Err-clause-steps c = λ now s p from x. short_here s p from c.args.self.now.engine c.args.self.now.reading c.args.lines.now now x
 
 pub returns-in-Ok-true-clause-goes : goal.returns-in-Ok-true-clause-goes
-returns-in-Ok-true-clause-goes c = (c.in-Ok-true.ensures.falls refl, omega arith)
+returns-in-Ok-true-clause-goes c =
+    let done : c.in-Ok-true.field-0 ≡ true = search rules in
+    (c.in-Ok-true.ensures.falls done, omega arith)

@@ -1,4 +1,4 @@
-use Rattle.std.proofs.Common.{refl, sym, subst, arith}
+use Rattle.std.proofs.Common.{◌≡◌, true, false, Bool, rules, refl, sym, subst, arith}
 use Rattle.std.specs.Io.KnownBytes.{append_known}
 use Rattle.ax_task.specs.Tasks.{Outer, HasEnded}
 use Rattle.ax_task.specs.declared.end.End.{End}
@@ -38,12 +38,15 @@ returns-in-Err-clause-steps g c = λ s p from x.
     let h = append_known (held c.work.new.out.inner.now) c.work.new.out.room.now in
     let w = counts c.work.new.out.inner.now in
     subst (λ (e : End). HasEnded s p from (record { left = now.left; reads = now.reads; holds = h; writes = w }) e) (sym c.end_of.ensures)
-    (broke_off s p from c.args.self.now.engine c.args.self.now.reading c.args.lines.now now x c.in-Err.fault h w c.in-Err.ensures.part c.in-Err.ensures.counts)
+    (broke_off s p from c.args.self.now.engine c.args.self.now.reading c.args.lines.now now x Bool c.in-Err.fault h w c.in-Err.ensures.part c.in-Err.ensures.counts)
 
 pub returns-in-Ok-true-clause-goes : goal.returns-in-Ok-true-clause-goes
-returns-in-Ok-true-clause-goes g c = (c.in-Ok-true.ensures.falls refl, omega arith)
+returns-in-Ok-true-clause-goes g c =
+    let done : c.in-Ok-true.field-0 ≡ true = search rules in
+    (c.in-Ok-true.ensures.falls done, omega arith)
 
 pub returns-in-Ok-false-clause-goes : goal.returns-in-Ok-false-clause-goes
 returns-in-Ok-false-clause-goes g c =
+    let done : c.in-Ok-false.field-0 ≡ false = search rules in
     goes_as c.args.self.now.engine c.work.new.self c.read_on.new.self.engine c.args.self.now.reading c.args.self.now.reading c.read_on.new.self.reading c.args.lines.now c.read_on.new.lines c.read_on.result
-    (c.in-Ok-false.ensures.still refl) refl c.read_on.ensures.goes
+    (c.in-Ok-false.ensures.still done) refl c.read_on.ensures.goes
