@@ -3,13 +3,15 @@ use Rattle.std.proofs.Common.{◌≡◌, ◌<◌, ◌≤◌, ℕ, suc, ◌+◌, 
 use Rattle.ax_base.specs.Reader.{Reader}
 use Rattle.ax_input.specs.declared.event.Event.{Event as CodeEvent}
 use Rattle.ax_execution.specs.MachineControls.{MachineControl, control_of_machine, in_flight_on}
+use Rattle.ax_lang.specs.declared.program.Program.{Program}
 use Rattle.ax_core.specs.declared.settings.Settings.{Settings}
+use Rattle.ax_core.specs.declared.controller.Controller.{Controller}
 use Rattle.ax_core.specs.May.{has_mail}
 use Rattle.ax_core.specs.Sound.{StandsFor}
-use Rattle.ax_task.specs.Engines.{IsReady, IsQuiet}
+use Rattle.ax_task.specs.Engines.{IsReady, IsQuiet, MovesOn}
 use Rattle.ax_task.specs.Exchanged.{NothingWaits, LessIsLeft}
 use Rattle.ax_task.specs.Due.{IsFree, one_held, unread, due, IsLooked, Goes}
-use Rattle.ax_task.specs.Tasks.{Outer, IsUnderway, IsOnItsWay, MayRead, EndsWell}
+use Rattle.ax_task.specs.Tasks.{Outer, From, IsUnderway, IsOnItsWay, MayRead, EndsWell}
 use Rattle.ax_task.specs.declared.end.End.{End}
 use Rattle.ax_task.specs.declared.end.End.TheVariants as end
 use Rattle.ax_task.specs.declared.engine.Engine.{Engine}
@@ -67,7 +69,7 @@ module _ (e : Engine) (r : Reading) (ready : IsReady e) (quiet : IsQuiet e.core)
   cant_be looked none = absurd (of r.found none (looked none_held))
     where
       of : (o : Option End) → o ≡ None → IsSome o → ⊥
-      of None e h = h
+      of None e h = cc h
       of (Some x) e h = cc e
 
 -- somewhere on its way
@@ -76,3 +78,16 @@ ready_there e r lines now w = record { settings = w.settings; program = w.progra
 
 pub may_there : (e : Engine) (r : Reading) (lines : Reader) (now : Outer) → IsOnItsWay e r lines now → MayRead lines r.found
 may_there e r lines now w = w.underway.has_read.may
+
+pub way_on : (e : Engine) (r : Reading) (lines : Reader) (now : Outer) (e' : Engine) (r' : Reading) (lines' : Reader) (now' : Outer) → IsOnItsWay e r lines now
+    → ((s : Settings) (p : Program) (from : From) → IsUnderway s p from e r lines now → IsUnderway s p from e' r' lines' now') → IsOnItsWay e' r' lines' now'
+way_on e r lines now e' r' lines' now' w on = record { settings = w.settings; program = w.program; from = w.from; underway = on w.settings w.program w.from w.underway }
+
+pub moved_ready : (e e' : Engine) → MovesOn e e' → IsReady e → IsReady e'
+moved_ready e e' on x = record { settings = x.settings; program = x.program; read = x.read; written = x.written; stands = on x.settings x.program x.read x.written x.stands }
+
+pub blocked_as : (a b : Controller) (o : Option CodeEvent) → b ≡ a → IfSome o (λ (x : CodeEvent). IsFree a → ⊥) → IfSome o (λ (x : CodeEvent). IsFree b → ⊥)
+blocked_as a b o e h = subst (λ (c : Controller). IfSome o (λ (x : CodeEvent). IsFree c → ⊥)) (sym e) h
+
+pub no_more : (a b c : ℕ) → a ≤ b → b ≤ c → a ≤ c
+no_more a b c h k = omega (arith, h, k)

@@ -44,9 +44,3 @@ abbrev pub Goes : Engine → Engine → Reading → Reading → Reader → Reade
 Goes e e' r r' lines lines' step.Went = LessIsLeft e e' × (due r' lines' ≤ due r lines)
 Goes e e' r r' lines lines' step.Took = due r' lines' < due r lines
 Goes e e' r r' lines lines' (step.End end) = Unit {0}
-
--- behind a round an event was taken, or the run has ended
-abbrev pub GoesRound : Reading → Reading → Reader → Reader → Step → Type 0
-GoesRound r r' lines lines' step.Went = ⊥
-GoesRound r r' lines lines' step.Took = due r' lines' < due r lines
-GoesRound r r' lines lines' (step.End end) = Unit {0}

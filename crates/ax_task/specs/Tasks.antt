@@ -108,6 +108,11 @@ pub record TakesHeld (e e' : Engine) (r r' : Reading) : Type 0 where
   pub found : r'.found ≡ r.found
   pub takes : Takes e e' (shown_event event)
 
+-- a round takes an event, or the run has ended
+abbrev pub round_step : Option End → Step
+round_step None = step.Took
+round_step (Some end) = step.End end
+
 -- a task is somewhere on its way
 pub record IsOnItsWay (e : Engine) (r : Reading) (lines : Reader) (now : Outer) : Type 0 where
   pub settings : Settings

@@ -13,8 +13,8 @@ ghost use Rattle.ax_task.specs.Passes.{events_at, feed_of, Took, Wrote};
 ghost use Rattle.ax_core.specs.May.{has_mail};
 ghost use Rattle.ax_task.specs.Engines.{IsReady, IsQuiet};
 ghost use Rattle.ax_task.specs.Exchanged.{NothingWaits};
-ghost use Rattle.ax_task.specs.Due.{IsFree, IsLooked, Goes, GoesRound};
-ghost use Rattle.ax_task.specs.Tasks.{Outer, MayRead, Steps, TakesHeld, HasEnded, IsOnItsWay, EndsWell};
+ghost use Rattle.ax_task.specs.Due.{IsFree, IsLooked, Goes};
+ghost use Rattle.ax_task.specs.Tasks.{Outer, MayRead, Steps, TakesHeld, HasEnded, IsOnItsWay, EndsWell, round_step};
 
 use crate::config::Config;
 use crate::end::End;
@@ -185,26 +185,26 @@ impl Task {
         }
     }
 
-    // Does what there is to do until an event is taken or the run has ended.
+    // Does what there is to do until an event is taken, or the run has ended so.
     fn until_taken<S: Source, K: Sink, B: Begun>(
         &mut self,
         lines: &mut Lines,
         input: &mut S,
         out: &mut Gather<'_, K, B>,
-    ) -> Step
+    ) -> Option<End>
         requires { IsOnItsWay self.old.engine self.old.reading lines.old
             (record { left = S.left input.old; reads = S.faults input.old; holds = append_known (K.holds out.old.inner.now) out.old.room.now; writes = K.counts out.old.inner.now }) }
         ensures steps { Steps self.old.engine self.new.engine self.old.reading self.new.reading lines.old lines.new
             (record { left = S.left input.old; reads = S.faults input.old; holds = append_known (K.holds out.old.inner.now) out.old.room.now; writes = K.counts out.old.inner.now })
-            (record { left = S.left input.new; reads = S.faults input.new; holds = append_known (K.holds out.new.inner.now) out.new.room.now; writes = K.counts out.new.inner.now }) result }
-        ensures goes { GoesRound self.old.reading self.new.reading lines.old lines.new result }
+            (record { left = S.left input.new; reads = S.faults input.new; holds = append_known (K.holds out.new.inner.now) out.new.room.now; writes = K.counts out.new.inner.now }) (round_step result) }
+        ensures goes { Goes self.old.engine self.new.engine self.old.reading self.new.reading lines.old lines.new (round_step result) }
         ensures same { out.new.inner.ghost_name ≡ out.old.inner.ghost_name }
     {
         'round: loop {
             match self.work_on(lines, input, out) {
                 Step::Went => {}
-                Step::Took => return Step::Took,
-                Step::End { end } => return Step::End { end },
+                Step::Took => return None,
+                Step::End { end } => return Some(end),
             }
         }
     }
@@ -240,8 +240,8 @@ fn take_events<S: Source, K: Sink, B: Begun>(
     };
     'step: loop {
         match task.until_taken(lines, input, out) {
-            Step::Went | Step::Took => {}
-            Step::End { end } => return end,
+            None => {}
+            Some(end) => return end,
         }
     }
 }
