@@ -10,10 +10,14 @@ use std::test::Fail;
 const INPUT: &str =
     "input 1\nstate c value\non row\nx = get c or 0\nput c x + v1\nemit x + v1\nend\n%%\nr a 1 5\nr b 2 1\nb 1\n";
 
-// What is written, by the order of the keys in the block.
+// What is written, by the order of the keys in the block. The states of `b` lie on an earlier shard than those of `a` where there are
+// 128 groups: so its row is finished first, though it came second.
 const BY_KEY: &str = "o a 5\no b 1\ns 1 -9223372036854775808\nc a c 5\nc b c 1\ne 1 2\n";
 
-const BY_GROUP: &str = "o a 5\no b 1\ns 1 -9223372036854775808\nc b c 1\nc a c 5\ne 1 2\n";
+const BY_GROUP: &str = "o b 1\no a 5\ns 1 -9223372036854775808\nc b c 1\nc a c 5\ne 1 2\n";
+
+// The same with one row after another.
+const IN_TURN: &str = "o a 5\no b 1\ns 1 -9223372036854775808\nc b c 1\nc a c 5\ne 1 2\n";
 
 // Calls the program with these words, the first of which is its name. Words that are refused leave the whole input.
 fn expect_call(
@@ -50,7 +54,13 @@ fn words_of_the_process(rt: HostRuntime) -> Result<(), Fail> {
     expect_call(&rt, &["ax", "--"], 0, BY_GROUP, "")?;
     expect_call(&rt, &["ax", "--max-parallelism", "4"], 0, BY_KEY, "")?;
     expect_call(&rt, &["ax", "--max-parallelism=128"], 0, BY_GROUP, "")?;
+    expect_call(&rt, &["ax", "--in-flight", "1"], 0, IN_TURN, "")?;
     expect_call(&rt, &["ax", "x"], 2, "", "ax: usage\n")?;
+    expect_call(&rt, &["ax", "--batch", "0"], 2, "", "ax: usage\n")?;
+    let many_shards = ["ax", "--shards", "8", "--max-parallelism", "4"];
+    expect_call(&rt, &many_shards, 2, "", "ax: usage\n")?;
+    let twice = ["ax", "--batch", "5", "--batch", "5"];
+    expect_call(&rt, &twice, 2, "", "ax: usage\n")?;
     expect_call(&rt, &["ax", "--trace"], 2, "", "ax: usage\n")?;
     expect_call(&rt, &["ax", "--max-parallelism", "0"], 2, "", "ax: usage\n")?;
     expect_call(&rt, &["ax", "--max-parallelism=-4"], 2, "", "ax: usage\n")

@@ -5,6 +5,7 @@ use Rattle.ax_base.specs.Outside.{Told, Counts}
 use Rattle.ax_task.specs.Parse.{Parsed, BadProgram, Runs, Ending, Clean, Fault, parse}
 use Rattle.ax_task.specs.Clause.{Holds, RunEnds, Stops, RunCounts, AllStay, EndCounts}
 use Rattle.ax_words.specs.declared.options.Options.{Options}
+use Rattle.ax_task.specs.declared.config.Config.{Config}
 use Rattle.ax_task.specs.declared.end.End.{End}
 use Rattle.ax_task.specs.declared.end.End.TheVariants as end
 use Rattle.ax_cli.specs.FaultLine.{WritesLine, line_of}
@@ -19,6 +20,10 @@ groups_by (Some options) = options.max_parallelism
 -- whether watermarks wait for all that precedes them, and all that follows waits for them
 abbrev pub serial : Bool
 serial = true
+
+-- how the program works by these options
+abbrev pub config_for : Options → Config
+config_for o = record { settings = record { serial = serial; shards = o.shards; groups = o.max_parallelism; in_flight = o.in_flight }; batch = o.batch }
 
 -- the words are accepted
 abbrev pub AreAccepted : Option Options → Type 0

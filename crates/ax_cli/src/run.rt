@@ -1,41 +1,48 @@
 //! The top call.
-ghost use Rattle.std.specs.Prelude.{◌≡◌, ◌≤◌, None, IfOk, IfErr, OnOk};
+ghost use Rattle.std.specs.Prelude.{◌≡◌, ◌<◌, true, None, Some, IfOk, IfErr, OnOk, option_map};
 ghost use Rattle.ax_base.specs.Outside.{Told};
+ghost use Rattle.ax_core.specs.Sound.{InRange};
 ghost use Rattle.ax_task.specs.Parse.{parse};
 ghost use Rattle.ax_words.specs.Options.{options_of, texts};
-ghost use Rattle.ax_cli.specs.Status.{groups_by, AreAccepted, StatusOf, StatusStops, StatusCounts, AreUntouched, IsRefused, NoFault, IsNamed, IsProgramNamed};
+ghost use Rattle.ax_cli.specs.Status.{config_for, groups_by, AreAccepted, StatusOf, StatusStops, StatusCounts, AreUntouched, IsRefused, NoFault, IsNamed, IsProgramNamed};
 ghost use Rattle.ax_cli.specs.FaultLine.{WritesLine, line_of};
 
 use crate::fault_line::write_fault_line;
 use crate::status::Status;
 use ax_base::{Nums, Sink, Source};
 use ax_task::{Config, Settings, run_task_alone};
-use ax_words::{WordFault, read_words};
+use ax_words::{Options, WordFault, read_words};
 use std::alloc::Global;
 
-// The number of key groups that the words name.
-fn groups_of(alloc: Global, words: &[&str]) -> Result<u16, WordFault>
-    ensures groups { IfOk result (λ m. m ≡ groups_by (options_of (texts words.now))) }
-    ensures accepted { OnOk result (AreAccepted (options_of (texts words.now))) }
-    ensures refused { IfErr result (λ e. e ≡ WordFault.Usage → options_of (texts words.now) ≡ None) }
-    ensures range { IfOk result (λ m. (1 ≤ m) × (m ≤ 32768)) }
+// How the program works by these options.
+fn config_for(options: &Options) -> Config
+    ensures { result ≡ config_for options.now }
 {
-    match read_words(alloc, words) {
-        Ok(options) => Ok(options.max_parallelism),
-        Err(fault) => Err(fault),
-    }
-}
-
-// How a run with so many key groups works.
-fn config_of(groups: u16) -> Config {
     Config {
         settings: Settings {
             serial: true,
-            shards: groups.min(8),
-            groups,
-            in_flight: 6000,
+            shards: options.shards,
+            groups: options.max_parallelism,
+            in_flight: options.in_flight,
         },
-        batch: 1000,
+        batch: options.batch,
+    }
+}
+
+// How the program works by the words.
+fn config_of(alloc: Global, words: &[&str]) -> Result<Config, WordFault>
+    ensures config { IfOk result (λ c. option_map config_for (options_of (texts words.now)) ≡ Some c) }
+    ensures refused { IfErr result (λ e. e ≡ WordFault.Usage → options_of (texts words.now) ≡ None) }
+    ensures ranges { IfOk result (λ c. InRange c.settings) }
+    ensures contexts { IfOk result (λ c. 0 < c.settings.in_flight) }
+    ensures batch { IfOk result (λ c. 0 < c.batch) }
+    ensures groups { IfOk result (λ c. c.settings.groups ≡ groups_by (options_of (texts words.now))) }
+    ensures serial { IfOk result (λ c. c.settings.serial ≡ true) }
+    ensures accepted { OnOk result (AreAccepted (options_of (texts words.now))) }
+{
+    match read_words(alloc, words) {
+        Ok(options) => Ok(config_for(&options)),
+        Err(fault) => Err(fault),
     }
 }
 
@@ -55,8 +62,11 @@ fn run_words<S: Source, K: Sink>(
         (λ a b. StatusStops (groups_by (options_of (texts words.now))) (record { old = K.holds out.old; new = K.holds out.new }) a b result) }
     ensures counts { StatusCounts (record { reads = S.faults input.old; writes = K.counts out.old }) (record { reads = S.faults input.new; writes = K.counts out.new }) result }
 {
-    match groups_of(alloc, words) {
-        Ok(groups) => Status::of_end(run_task_alone(alloc, &config_of(groups), Nums::new(alloc), input, out)),
+    match config_of(alloc, words) {
+        Ok(config) => {
+            let order = Nums::new(alloc);
+            Status::of_end(run_task_alone(alloc, &config, order, input, out))
+        }
         Err(WordFault::Usage) => Status::Usage,
         Err(WordFault::NoMemory) => Status::NoMemory,
     }

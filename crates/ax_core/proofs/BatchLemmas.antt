@@ -1,5 +1,5 @@
 -- Requests that go out: the front of a queue is out, and nothing else changes.
-use Rattle.std.proofs.Common.{◌≡◌, ◌⊎◌, ℕ, zero, suc, ◌+◌, ◌≤◌, ◌<◌, Bool, true, false, List, [], ◌∷◌, ◌++◌, length, get_or, set, take, drop, refl, sym, ap, ◌∙◌, subst, inl, inr, Option, Some, None, Contains, length-set, arith}
+use Rattle.std.proofs.Common.{◌≡◌, ℕ, zero, suc, ◌+◌, ◌≤◌, ◌<◌, Bool, true, false, List, [], ◌∷◌, ◌++◌, length, get_or, set, take, drop, refl, sym, ap, ◌∙◌, subst, inl, inr, Option, Some, None, Contains, length-set, arith}
 use Rattle.std.proofs.lemmas.List.{take-append-drop}
 use Rattle.std.proofs.lemmas.List.Elements.{Contains-append_left, Contains-append_right, Contains-append_cases}
 use Rattle.ax_text.specs.Controls.{Control, request_at}
@@ -7,7 +7,7 @@ use Rattle.ax_future.specs.declared.machine.Machine.{Machine as CodeMachine}
 use Rattle.ax_future.specs.Machines as machine
 use Rattle.ax_buffer.specs.declared.items.Item.{Item}
 use Rattle.ax_buffer.specs.Buffer.{queue_of, total}
-use Rattle.ax_buffer.proofs.ListLemmas.{at_set, total-at}
+use Rattle.ax_buffer.proofs.ListLemmas.{at_set}
 use Rattle.ax_context.specs.declared.id.Id.{Id}
 use Rattle.ax_context.specs.declared.contexts.Context.{Context as Held}
 use Rattle.ax_context.specs.Slots.{at}
@@ -23,13 +23,7 @@ use Rattle.ax_core.specs.Sound.{StandsFor, IsSound}
 use Rattle.ax_core.specs.Events.{SameRules, StageAsksIt, OwnerAsks, Asks, AsksAll, names_in, AreOut, key_in, OfKeys}
 use Rattle.ax_core.proofs.Counting.{named_names, queues_taken, outs_named, outs_longer, of_names, length_names}
 use Rattle.ax_core.proofs.Waits.{waits_here}
-use Rattle.ax_core.proofs.Owners.{runs_at, unanswered, queued_there}
-
--- a list is longer than a number, or there is nothing at it
-inside_or : {X : Type 0} (s : ℕ) (xs : List (List X)) → (s < length xs) ⊎ (get_or xs s [] ≡ [])
-inside_or s [] = inr refl
-inside_or zero (x ∷ xs) = inl (omega arith)
-inside_or (suc s) (x ∷ xs) = elim (inside_or s xs) [ inl h ↦ inl (omega arith) | inr e ↦ inr e ]
+use Rattle.ax_core.proofs.Owners.{runs_at, unanswered, in_queues_there}
 
 at_most : (b : Bool) → one_if b ≤ 1
 at_most true = omega arith
@@ -168,14 +162,7 @@ module _ (a b : Controller) (s max : ℕ) (inside : s < a.settings.shards)
 -- what waits in a queue is asked
 module _ (a : Controller) (m : MachineControl) (flow : IsFlow a) (stands : Stands a m) where
   no_answer : (shard : ℕ) (i : Item) → Contains (queue_of a.buffer shard) i → answered_as i.id i.slot a.mails.mails ≡ 0
-  no_answer shard i h =
-      let here : 1 ≤ queued_as i.id i.slot (queue_of a.buffer shard) = queued_there i (queue_of a.buffer shard) h in
-      elim (inside_or shard a.buffer.queues) [
-        | inl x ↦
-            let all : queued_as i.id i.slot (queue_of a.buffer shard) ≤ in_queues a i.id i.slot = total-at (queued_as i.id i.slot) a.buffer.queues shard [] x in
-            omega (arith, flow.once i.id i.slot, at_most (waits_for (waits_at a.program (at a.contexts i.id)) i.slot))
-        | inr x ↦ absurd (omega (arith, h.1, ap length x))
-      ]
+  no_answer shard i h = omega (arith, in_queues_there a shard i h, flow.once i.id i.slot, at_most (waits_for (waits_at a.program (at a.contexts i.id)) i.slot))
 
   asks_one : (shard : ℕ) (i : Item) → Contains (queue_of a.buffer shard) i → Asks a shard m i
   asks_one shard i h = of (at a.contexts i.id) refl (flow.queued shard i h)

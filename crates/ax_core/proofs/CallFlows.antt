@@ -54,6 +54,7 @@ use Rattle.ax_core.specs.Flow.{shard_of, one_if, answers_as, answered_as, starts
 use Rattle.ax_core.specs.Sound.{InRange, rules_of, HasRooms, IsSound}
 use Rattle.ax_core.specs.Events.{SameRules, KeysStay}
 use Rattle.ax_core.specs.Firings.{FiresAt}
+use Rattle.ax_core.specs.Order.{number_in}
 use Rattle.ax_core.specs.Callbacks.{with_machine, Begins, Resumed, ResumedAt, items_for, IsQueued, with_start, behind_marks, fires, waits_next, HandsOver, GoesOn}
 use Rattle.ax_core.specs.Calls.{IsDone, WaitsOn, IsGivenUp, EndsBy, CallEnds, Started, Replied}
 use Rattle.ax_core.proofs.AskLemmas.{none_left}
@@ -64,14 +65,11 @@ use Rattle.ax_core.proofs.EventLemmas.{no_row_numbered}
 use Rattle.ax_core.proofs.FiresFlow.{flow_fires}
 use Rattle.ax_core.proofs.Flows.{same_self, same_is}
 use Rattle.ax_core.proofs.Frames.{KeyIn}
-use Rattle.ax_core.proofs.Fronts.{HeldAs, held_as, IsStartOf, start_quiet, start_as, IsToStart, is_to_start_there, IsToGive, is_to_give_there}
+use Rattle.ax_core.proofs.Fronts.{behind_mail, HeldAs, held_as, IsStartOf, start_quiet, start_as, IsToStart, is_to_start_there, IsToGive, is_to_give_there}
 use Rattle.ax_core.proofs.KeysStay.{keys_made}
 use Rattle.ax_core.proofs.Replaced.{contains_none, replaced_keeps, replaced_has}
 use Rattle.ax_core.proofs.Sends.{accepted}
 use Rattle.ax_core.proofs.StartLemmas.{next_is, IsUnbegunOf, next_owns}
-
-true_false : true ≡ false → ⊥
-true_false e = cc e
 
 -- a key's shard is one of all
 pub shard_inside : (s : Settings) (key : Key) → InRange s → shard_of s key < s.shards
@@ -134,7 +132,7 @@ pub record CallsAt (old : Controller) (id : Id) (m : Mail) (ns : List Mail) (s :
       → (slot : ℕ) → in_queues b id slot + (in_outs b id slot + answered_as id slot b.mails.mails) ≡ one_if (waits_for (waits_at b.program (at b.contexts id)) slot)
 
 -- before the key goes on: all that is as it was, the requests, and the mails that are left
-record Behind (old b : Controller) (id : Id) (key : Key) (asks : List Ask) (ns : List Mail) : Type 0 where
+pub record Behind (old b : Controller) (id : Id) (key : Key) (asks : List Ask) (ns : List Mail) : Type 0 where
   program : b.program ≡ old.program
   settings : b.settings ≡ old.settings
   outs : b.outs ≡ old.outs
@@ -195,7 +193,7 @@ module _ (old : Controller) (id : Id) (m : Mail) (ns : List Mail) (s : Slots Rec
   key_is : h.payload.facts.key ≡ payload.facts.key
   key_is = sym (ap (λ (r : Record). r.facts.key) calls.made)
 
-  done_behind : (mid : Controller) → IsDone ran mid id held t → Behind old mid id payload.facts.key t.asks ns
+  pub done_behind : (mid : Controller) → IsDone ran mid id held t → Behind old mid id payload.facts.key t.asks ns
   done_behind mid done = record {
     program = ap (λ (c : Controller). c.program) done.same;
     settings = ap (λ (c : Controller). c.settings) done.same;
@@ -262,51 +260,54 @@ module _ (old : Controller) (id : Id) (m : Mail) (ns : List Mail) (s : Slots Rec
 
   -- ---- its context waits on
 
-  waits_flow : (mid b : Controller) → Behind old mid id payload.facts.key t.asks ns → WaitsOn mid b id more → Follows old b
-  waits_flow mid b x w = record {
-    flow = flow_on old b id payload.facts.key t.asks next.Free m ns was xs sound.flow on;
-    outs = y.outs;
-    keys = keys_on old b id payload.facts.key t.asks next.Free m ns was xs sound.flow on;
-    program = y.program;
-    settings = y.settings;
-    limit = y.limit;
-    requests = y.queued.room;
-    room = y.room;
-  }
-    where
-      y : Behind old b id payload.facts.key t.asks ns
-      y = ended_behind mid b b.contexts mid.epochs w.same w.others w.limit x
+  module _ (mid b : Controller) (x : Behind old mid id payload.facts.key t.asks ns) (w : WaitsOn mid b id more) where
+    waits_behind : Behind old b id payload.facts.key t.asks ns
+    waits_behind = ended_behind mid b b.contexts mid.epochs w.same w.others w.limit x
 
-      machine_is : payload.machine ≡ Some calls.after
-      machine_is = ap (λ (r : Record). r.machine) calls.made
+    machine_is : payload.machine ≡ Some calls.after
+    machine_is = ap (λ (r : Record). r.machine) calls.made
 
-      waits_now : waits_in b.program payload.machine ≡ xs
-      waits_now = (λ j. waits_in (y.program j) (machine_is j)) ∙ calls.waits
+    waits_now : waits_in b.program payload.machine ≡ xs
+    waits_now = (λ j. waits_in (waits_behind.program j) (machine_is j)) ∙ calls.waits
 
-      on : FlowsOn old b id payload.facts.key t.asks next.Free m ns was xs
-      on = record {
-        named = has_key (at old.contexts id) calls.there;
-        owned = calls.owned;
-        waited = calls.waited;
-        left = subst (λ (o : Option (Held Record)). Left b id payload.facts.key xs o) (sym w.left) (record { named = refl; begun = ap is_none machine_is; waits = waits_now; owner = ap (λ (a : Accounts). owner_of a payload.facts.key) y.accounts ∙ calls.owned });
-        others = y.others;
-        program = y.program;
-        settings = y.settings;
-        outs = y.outs;
-        inside = inside;
-        queued = y.queued;
-        asked = calls.asked;
-        waits = calls.keeps;
-        taken = calls.taken;
-        posted = y.mails;
-        starts = calls.starts;
-        answers = calls.answers;
-        started = calls.started;
-        owners = λ q differ. ap (λ (a : Accounts). owner_of a q) y.accounts;
-        owner = λ i differ. ap (λ (a : Accounts). is_owner i (owner_of a payload.facts.key)) y.accounts ∙ ap (is_owner i) calls.owned ∙ differ;
-        next = λ i e. absurd (cc e);
-        once = calls.once b next.Free y.queued y.outs y.mails (ap (waits_at b.program) w.left ∙ waits_now);
-      }
+    pub waits_on : FlowsOn old b id payload.facts.key t.asks next.Free m ns was xs
+    waits_on = record {
+      named = has_key (at old.contexts id) calls.there;
+      owned = calls.owned;
+      waited = calls.waited;
+      left = subst (λ (o : Option (Held Record)). Left b id payload.facts.key xs o) (sym w.left)
+          (record { named = refl; begun = ap is_none machine_is; waits = waits_now; owner = ap (λ (a : Accounts). owner_of a payload.facts.key) waits_behind.accounts ∙ calls.owned });
+      number = λ live. ap number_in w.left ∙ sym (ap number_in calls.there);
+      others = waits_behind.others;
+      program = waits_behind.program;
+      settings = waits_behind.settings;
+      outs = waits_behind.outs;
+      inside = inside;
+      queued = waits_behind.queued;
+      asked = calls.asked;
+      waits = calls.keeps;
+      taken = calls.taken;
+      posted = waits_behind.mails;
+      starts = calls.starts;
+      answers = calls.answers;
+      started = calls.started;
+      owners = λ q differ. ap (λ (a : Accounts). owner_of a q) waits_behind.accounts;
+      owner = λ i differ. ap (λ (a : Accounts). is_owner i (owner_of a payload.facts.key)) waits_behind.accounts ∙ ap (is_owner i) calls.owned ∙ differ;
+      next = λ i e. absurd (cc e);
+      once = calls.once b next.Free waits_behind.queued waits_behind.outs waits_behind.mails (ap (waits_at b.program) w.left ∙ waits_now);
+    }
+
+    waits_flow : Follows old b
+    waits_flow = record {
+      flow = flow_on old b id payload.facts.key t.asks next.Free m ns was xs sound.flow waits_on;
+      outs = waits_behind.outs;
+      keys = keys_on old b id payload.facts.key t.asks next.Free m ns was xs sound.flow waits_on;
+      program = waits_behind.program;
+      settings = waits_behind.settings;
+      limit = waits_behind.limit;
+      requests = waits_behind.queued.room;
+      room = waits_behind.room;
+    }
 
   -- ---- or it is given up, and its key is handed over
 
@@ -319,64 +320,63 @@ module _ (old : Controller) (id : Id) (m : Mail) (ns : List Mail) (s : Slots Rec
       let none : 0 ≡ length (waiting (machine.control_of old.program calls.after)) = omega (arith, sum, waiting_length (machine.control_of old.program calls.after)) in
       sym calls.waits ∙ none_left (waiting (machine.control_of old.program calls.after)) none
 
-  hands_flow : (mid g b : Controller) → Behind old mid id payload.facts.key t.asks ns → IsGivenUp mid g id more → HandsOver g b payload.facts.key → Follows old b
-  hands_flow mid g b x given hands = record {
-    flow = flow_on old b id payload.facts.key t.asks (next_of (waits_next g payload.facts.key)) m ns was xs sound.flow on;
-    outs = outs;
-    keys = keys_on old b id payload.facts.key t.asks (next_of (waits_next g payload.facts.key)) m ns was xs sound.flow on;
-    program = program;
-    settings = ap (λ (c : Controller). c.settings) hands.same ∙ y.settings;
-    limit = ap (λ (c : Controller). c.contexts.limit) hands.same ∙ y.limit;
-    requests = queued.room;
-    room = hands.room ∙ y.room;
-  }
-    where
-      y : Behind old g id payload.facts.key t.asks ns
-      y = ended_behind mid g g.contexts g.epochs given.same given.others given.limit x
+  module _ (mid g b : Controller) (x : Behind old mid id payload.facts.key t.asks ns) (given : IsGivenUp mid g id more) (hands : HandsOver g b payload.facts.key) where
+    given_behind : Behind old g id payload.facts.key t.asks ns
+    given_behind = ended_behind mid g g.contexts g.epochs given.same given.others given.limit x
 
-      contexts : b.contexts ≡ g.contexts
-      contexts = ap (λ (c : Controller). c.contexts) hands.same
+    contexts : b.contexts ≡ g.contexts
+    contexts = ap (λ (c : Controller). c.contexts) hands.same
 
-      program : b.program ≡ old.program
-      program = ap (λ (c : Controller). c.program) hands.same ∙ y.program
+    outs : b.outs ≡ old.outs
+    outs = ap (λ (c : Controller). c.outs) hands.same ∙ given_behind.outs
 
-      outs : b.outs ≡ old.outs
-      outs = ap (λ (c : Controller). c.outs) hands.same ∙ y.outs
+    gone : at b.contexts id ≡ None
+    gone = (λ j. at (contexts j) id) ∙ given.free
 
-      gone : at b.contexts id ≡ None
-      gone = (λ j. at (contexts j) id) ∙ given.free
+    posted : b.mails.mails ≡ with_start (next_of (waits_next g payload.facts.key)) ns
+    posted = hands.mails ∙ ap (with_start (next_of (waits_next g payload.facts.key))) given_behind.mails
 
-      posted : b.mails.mails ≡ with_start (next_of (waits_next g payload.facts.key)) ns
-      posted = hands.mails ∙ ap (with_start (next_of (waits_next g payload.facts.key))) y.mails
+    queued : IsQueued old.buffer b.buffer (shard_of old.settings payload.facts.key) (items_for id payload.facts.key t.asks)
+    queued = subst (λ (c : Controller). IsQueued old.buffer c.buffer (shard_of old.settings payload.facts.key) (items_for id payload.facts.key t.asks)) (sym hands.same) given_behind.queued
 
-      queued : IsQueued old.buffer b.buffer (shard_of old.settings payload.facts.key) (items_for id payload.facts.key t.asks)
-      queued = subst (λ (c : Controller). IsQueued old.buffer c.buffer (shard_of old.settings payload.facts.key) (items_for id payload.facts.key t.asks)) (sym hands.same) y.queued
+    pub hands_on : FlowsOn old b id payload.facts.key t.asks (next_of (waits_next g payload.facts.key)) m ns was xs
+    hands_on = record {
+      named = has_key (at old.contexts id) calls.there;
+      owned = calls.owned;
+      waited = calls.waited;
+      left = subst (λ (o : Option (Held Record)). Left b id payload.facts.key xs o) (sym gone) (none_waits given.last);
+      number = λ live. absurd (live gone);
+      others = λ i differ. (λ j. at (contexts j) i) ∙ given_behind.others i differ;
+      program = ap (λ (c : Controller). c.program) hands.same ∙ given_behind.program;
+      settings = ap (λ (c : Controller). c.settings) hands.same ∙ given_behind.settings;
+      outs = outs;
+      inside = inside;
+      queued = queued;
+      asked = calls.asked;
+      waits = calls.keeps;
+      taken = calls.taken;
+      posted = posted;
+      starts = calls.starts;
+      answers = calls.answers;
+      started = calls.started;
+      owners = λ q differ. ap (λ (p : Part). p.owner) (hands.part.others q differ) ∙ ap (λ (a : Accounts). owner_of a q) given_behind.accounts;
+      owner = λ i differ. ap (λ (p : Part). is_owner i p.owner) hands.part.own ∙ next_owns i (waits_next g payload.facts.key);
+      next = λ i e. comes_next (times_of g.timers payload.facts.key) i
+          (subst (λ (a : Accounts). next_is i (next_of (behind_marks (times_of g.timers payload.facts.key) (waiting_of a payload.facts.key))) ≡ true) given_behind.accounts e);
+      once = calls.once b (next_of (waits_next g payload.facts.key)) queued outs posted (ap (waits_at b.program) gone ∙ sym (none_waits given.last));
+    }
 
-      on : FlowsOn old b id payload.facts.key t.asks (next_of (waits_next g payload.facts.key)) m ns was xs
-      on = record {
-        named = has_key (at old.contexts id) calls.there;
-        owned = calls.owned;
-        waited = calls.waited;
-        left = subst (λ (o : Option (Held Record)). Left b id payload.facts.key xs o) (sym gone) (none_waits given.last);
-        others = λ i differ. (λ j. at (contexts j) i) ∙ y.others i differ;
-        program = program;
-        settings = ap (λ (c : Controller). c.settings) hands.same ∙ y.settings;
-        outs = outs;
-        inside = inside;
-        queued = queued;
-        asked = calls.asked;
-        waits = calls.keeps;
-        taken = calls.taken;
-        posted = posted;
-        starts = calls.starts;
-        answers = calls.answers;
-        started = calls.started;
-        owners = λ q differ. ap (λ (p : Part). p.owner) (hands.part.others q differ) ∙ ap (λ (a : Accounts). owner_of a q) y.accounts;
-        owner = λ i differ. ap (λ (p : Part). is_owner i p.owner) hands.part.own ∙ next_owns i (waits_next g payload.facts.key);
-        next = λ i e. comes_next (times_of g.timers payload.facts.key) i
-            (subst (λ (a : Accounts). next_is i (next_of (behind_marks (times_of g.timers payload.facts.key) (waiting_of a payload.facts.key))) ≡ true) y.accounts e);
-        once = calls.once b (next_of (waits_next g payload.facts.key)) queued outs posted (ap (waits_at b.program) gone ∙ sym (none_waits given.last));
-      }
+    hands_flow : Follows old b
+    hands_flow = record {
+      flow = flow_on old b id payload.facts.key t.asks (next_of (waits_next g payload.facts.key)) m ns was xs sound.flow hands_on;
+      outs = outs;
+      keys = keys_on old b id payload.facts.key t.asks (next_of (waits_next g payload.facts.key)) m ns was xs sound.flow hands_on;
+      program = hands_on.program;
+      settings = hands_on.settings;
+      limit = ap (λ (c : Controller). c.contexts.limit) hands.same ∙ given_behind.limit;
+      requests = queued.room;
+      room = hands.room ∙ given_behind.room;
+    }
 
   goes_flow : (mid g b : Controller) (fired : Option Fired) → Behind old mid id payload.facts.key t.asks ns → IsGivenUp mid g id more → GoesOn g b payload.facts.key fired → Follows old b
   goes_flow mid g b None x given goes = hands_flow mid g b x given goes.1
@@ -402,10 +402,7 @@ one_reference p ms id None Unbegun e x = refl
 one_reference p ms id None (Begun r) e x = absurd x
 one_reference p ms id (Some c) st e x = absurd (cc e)
 
-module _ (old : Controller) (id : Id) (m : Mail) (ns : List Mail) (sound : IsSound old) (taken : old.mails.mails ≡ m ∷ ns) (start : IsStart id m) where
-  abbrev taken_from : Controller
-  taken_from = record old { mails = record { mails = ns; room = old.mails.room } }
-
+module _ (old : Controller) (id : Id) (m : Mail) (ns : List Mail) (sound : IsSound old) (taken : old.mails.mails ≡ m ∷ ns) (start : IsStartOf id m) where
   module _ (h : Held Record) (there : at old.contexts id ≡ Some h) where
     to_start : IsToStart old ns id h
     to_start = is_to_start_there old m ns id h sound.flow taken start there
@@ -423,7 +420,7 @@ module _ (old : Controller) (id : Id) (m : Mail) (ns : List Mail) (sound : IsSou
     waited : waits_at old.program (at old.contexts id) ≡ []
     waited = ap (waits_at old.program) there ∙ none_waited old.program h.payload.machine unbegun
 
-    start_calls : (s : Slots Record) (payload : Record) (t : Turn) → Begins old.program h.payload payload t → IsPaid old.contexts s id payload → CallsAt old id m ns s h payload t [] (asks_in t.asks)
+    pub start_calls : (s : Slots Record) (payload : Record) (t : Turn) → Begins old.program h.payload payload t → IsPaid old.contexts s id payload → CallsAt old id m ns s h payload t [] (asks_in t.asks)
     start_calls s payload t b paid = record {
       there = there;
       paid = paid;
@@ -445,23 +442,20 @@ module _ (old : Controller) (id : Id) (m : Mail) (ns : List Mail) (sound : IsSou
     }
 
   -- behind a start each request that waits stands once on its way, and each owner that hasn't begun is started once
-  pub start_follows : (b : Controller) (f : Effects) → Has old.contexts id (Started taken_from b id f) → Follows old b
+  pub start_follows : (b : Controller) (f : Effects) → Has old.contexts id (Started (behind_mail old ns) b id f) → Follows old b
   start_follows b f x = of (at old.contexts id) refl x
     where
-      of : (o : Option (Held Record)) → at old.contexts id ≡ o → IsSomeAnd o (Started taken_from b id f) → Follows old b
+      of : (o : Option (Held Record)) → at old.contexts id ≡ o → IsSomeAnd o (Started (behind_mail old ns) b id f) → Follows old b
       of None e x = absurd x
       of (Some h) e x = call_flow old id m ns x.contexts h x.begun.payload x.turn [] (asks_in x.turn.asks) sound
           (start_calls h e x.contexts x.begun.payload x.turn x.begun.begins x.begun.paid) b f x.ended
 
-  pub flow_start : (b : Controller) (f : Effects) → Has old.contexts id (Started taken_from b id f) → IsFlow b
+  pub flow_start : (b : Controller) (f : Effects) → Has old.contexts id (Started (behind_mail old ns) b id f) → IsFlow b
   flow_start b f x = (start_follows b f x).flow
 
 -- ---- it is given an answer
 
 module _ (old : Controller) (id : Id) (slot : ℕ) (answer : Answer) (ns : List Mail) (sound : IsSound old) (taken : old.mails.mails ≡ mail.Reply id slot answer ∷ ns) where
-  abbrev taken_out : Controller
-  taken_out = record old { mails = record { mails = ns; room = old.mails.room } }
-
   module _ (h : Held Record) (there : at old.contexts id ≡ Some h) (code : Machine) (begun : h.payload.machine ≡ Some code) where
     to_give : IsToGive old ns id slot h code
     to_give = is_to_give_there old ns id slot answer h code sound.flow taken there begun
@@ -497,7 +491,7 @@ module _ (old : Controller) (id : Id) (slot : ℕ) (answer : Answer) (ns : List 
         ∙ ap (λ (o : Option Machine). one_if (is_none o && is_owner id (owner_of old.accounts h.payload.facts.key))) begun in
         omega (arith, sum)
 
-    reply_calls : (s : Slots Record) (payload : Record) (t : Turn) → Resumed old.program h.payload payload code slot answer t → IsPaid old.contexts s id payload
+    pub reply_calls : (s : Slots Record) (payload : Record) (t : Turn) → Resumed old.program h.payload payload code slot answer t → IsPaid old.contexts s id payload
         → CallsAt old id (mail.Reply id slot answer) ns s h payload t (waiting (machine.control_of old.program code)) (replaced slot (asks_in t.asks) (waiting (machine.control_of old.program code)))
     reply_calls s payload t g paid = record {
       there = there;
@@ -526,10 +520,10 @@ module _ (old : Controller) (id : Id) (slot : ℕ) (answer : Answer) (ns : List 
             (λ e. e)
 
   -- behind an answer, too
-  pub reply_follows : (b : Controller) (f : Effects) → Has old.contexts id (Replied taken_out b id slot answer f) → Follows old b
+  pub reply_follows : (b : Controller) (f : Effects) → Has old.contexts id (Replied (behind_mail old ns) b id slot answer f) → Follows old b
   reply_follows b f x = of (at old.contexts id) refl x
     where
-      of : (o : Option (Held Record)) → at old.contexts id ≡ o → IsSomeAnd o (Replied taken_out b id slot answer f) → Follows old b
+      of : (o : Option (Held Record)) → at old.contexts id ≡ o → IsSomeAnd o (Replied (behind_mail old ns) b id slot answer f) → Follows old b
       of None e x = absurd x
       of (Some h) e x = code h.payload.machine refl x.resumed.resumed
         where
@@ -538,5 +532,5 @@ module _ (old : Controller) (id : Id) (slot : ℕ) (answer : Answer) (ns : List 
           code (Some c) d y = call_flow old id (mail.Reply id slot answer) ns x.contexts h x.resumed.payload x.turn (waiting (machine.control_of old.program c))
               (replaced slot (asks_in x.turn.asks) (waiting (machine.control_of old.program c))) sound (reply_calls h e c d x.contexts x.resumed.payload x.turn y x.resumed.paid) b f x.ended
 
-  pub flow_reply : (b : Controller) (f : Effects) → Has old.contexts id (Replied taken_out b id slot answer f) → IsFlow b
+  pub flow_reply : (b : Controller) (f : Effects) → Has old.contexts id (Replied (behind_mail old ns) b id slot answer f) → IsFlow b
   flow_reply b f x = (reply_follows b f x).flow

@@ -1,5 +1,5 @@
 -- There is room for what a callback asks, and for the mail that it may post.
-use Rattle.std.proofs.Common.{◌≡◌, ℕ, ◌+◌, ◌*◌, ◌≤◌, ◌<◌, List, [], ◌∷◌, length, true, false, refl, sym, ap, ◌∙◌, subst, Option, Some, None, add-mul, mul-le-mul_right, arith}
+use Rattle.std.proofs.Common.{◌≡◌, ℕ, ◌+◌, ◌*◌, ◌≤◌, ◌<◌, List, [], ◌∷◌, length, true, sym, ap, ◌∙◌, subst, Option, Some, None, add-mul, mul-le-mul_right, arith}
 use Rattle.std.specs.Str.{bytes_eq}
 use Rattle.std.specs.List.{list_any}
 use Rattle.ax_text.specs.Programs.{program_width}
@@ -16,7 +16,6 @@ use Rattle.ax_context.specs.declared.contexts.Context.{Context as Held}
 use Rattle.ax_context.specs.Slots.{Slots, at, live_count}
 use Rattle.ax_account.specs.Accounts.{part_of}
 use Rattle.ax_mailbox.specs.declared.mail.Mail.{Mail}
-use Rattle.ax_execution.specs.Accepted.{AreAccepted}
 use Rattle.ax_execution.specs.Sums.{total as key_total}
 use Rattle.ax_execution.specs.Contexts.{Stage, Unbegun, Begun, Context, owners, rows_in}
 use Rattle.ax_execution.specs.Counts.{references}
@@ -24,7 +23,6 @@ use Rattle.ax_execution.specs.ControlTurns.{contexts_on}
 use Rattle.ax_execution.specs.MachineControls.{MachineControl, in_flight_on}
 use Rattle.ax_execution.specs.Reached.{IsOrderly, owed_to, owed_in}
 use Rattle.ax_execution.proofs.Upto.{by_cases}
-use Rattle.ax_execution.proofs.ReachedOrderly.{reached_orderly}
 use Rattle.ax_core.specs.declared.record.Record.{Record}
 use Rattle.ax_core.specs.declared.controller.Controller.{Controller}
 use Rattle.ax_core.specs.Contexts.{StageStands, ContextStands}

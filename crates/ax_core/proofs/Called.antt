@@ -56,6 +56,7 @@ pub record Calls (a : Controller) (m : MachineControl) (ns : List Mail) (id : Id
   pub goes : happens_on (shown_program a.program) e None m ≡ calls_back_on h.payload.facts.key
       (called_back_on context turn answers (m.controls h.payload.facts.key).waiting (times_after t.timer_ops (times_of a.timers h.payload.facts.key))) m
   pub lines : (outcome_on (shown_program a.program) e m).lines ≡ says h.payload.facts.key turn.talk.lines
+  pub asks : (outcome_on (shown_program a.program) e m).asks ≡ turn.asks
   pub gone : (outcome_on (shown_program a.program) e m).gone ≡ is_done turn.control
   -- each request that waits behind it, and the one reference that is given up
   pub count : h.count + length t.asks ≡ 1 + length (slots (machine.control_of a.program after))
@@ -71,7 +72,7 @@ others_differ id i differ = by_cases (same_id id i) (λ x. absurd (differ (sym (
 
 -- ---- a handler begins
 
-is_unbegun : (a : Controller) (id : Id) (o : Option Machine) (stage : Stage) → o ≡ None → StageStands a.program a.mails.mails id o stage → stage ≡ Unbegun
+pub is_unbegun : (a : Controller) (id : Id) (o : Option Machine) (stage : Stage) → o ≡ None → StageStands a.program a.mails.mails id o stage → stage ≡ Unbegun
 is_unbegun a id None Unbegun e y = refl
 is_unbegun a id None (Begun r) e y = absurd y
 is_unbegun a id (Some code) stage e y = absurd (none_some (sym e))
@@ -104,6 +105,7 @@ calls_start a m first ns id h s t flow x taken starts here b =
           ∙ (λ i. called_back_on own.context (begins (shown_program a.program) own.context.job) unanswered (m.controls key).waiting
           (times_after (left i).talk.ops (sym (x.stands.keys key).times i))));
       lines = ap (λ (y : Effects). says key y.lines) (starts_are (m.controls key) own.context own.owner (shown_program a.program) stage);
+      asks = ap (λ (y : Effects). y.asks) (starts_are (m.controls key) own.context own.owner (shown_program a.program) stage);
       gone = ap (λ (y : Effects). y.gone) (starts_are (m.controls key) own.context own.owner (shown_program a.program) stage);
       count = ap (λ (n : ℕ). n + length t.asks) one ∙ more;
       given = λ slot. none_answers ns id slot (start_unanswered a first ns id h flow taken starts here it.unbegun slot);
@@ -146,6 +148,7 @@ module _ (a : Controller) (m : MachineControl) (ns : List Mail) (id : Id) (slot 
             ∙ (λ i. called_back_on runs.context (gives runs.context.job runs.running slot answer) (upd runs.running.answers slot None) (m.controls key).waiting
             (times_after (left i).talk.ops (sym (x.stands.keys key).times i))));
         lines = ap (λ (y : Effects). says key y.lines) (gives_are (m.controls key) runs.context runs.owner runs.running slot answer runs.stage there);
+        asks = ap (λ (y : Effects). y.asks) (gives_are (m.controls key) runs.context runs.owner runs.running slot answer runs.stage there);
         gone = ap (λ (y : Effects). y.gone) (gives_are (m.controls key) runs.context runs.owner runs.running slot answer runs.stage there);
         count = ap (λ (n : ℕ). n + length t.asks) was ∙ more;
         given = given_answers ns id slot answer runs.running.answers (same_self id) before it.once;

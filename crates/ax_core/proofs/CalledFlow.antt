@@ -1,5 +1,5 @@
 -- The flow of the requests behind a callback: each that waits stands once on its way, and each owner that hasn't begun is started once.
-use Rattle.std.proofs.Common.{◌≡◌, ◌≢◌, ◌⊎◌, ℕ, zero, suc, ◌+◌, ◌≤◌, ◌<◌, Bool, true, false, ◌&&◌, List, [], ◌∷◌, ◌++◌, length, get_or, Option, Some, None, is_none, refl, sym, ap, ap₂, ◌∙◌, subst, inl, inr, Contains, arith}
+use Rattle.std.proofs.Common.{◌≡◌, ◌≢◌, ℕ, ◌+◌, ◌≤◌, ◌<◌, Bool, true, false, ◌&&◌, List, [], ◌∷◌, ◌++◌, length, get_or, Option, Some, None, is_none, refl, sym, ap, ap₂, ◌∙◌, subst, inl, inr, Contains, arith}
 use Rattle.std.proofs.lemmas.List.Elements.{Contains-append_cases}
 use Rattle.ax_text.specs.declared.vocabulary.Request.{Request}
 use Rattle.ax_text.specs.Controls.{Ask' as Asked}
@@ -9,7 +9,7 @@ use Rattle.ax_future.specs.Talks.{asks_in}
 use Rattle.ax_machine.specs.Entries.{Key}
 use Rattle.ax_buffer.specs.declared.items.Item.{Item}
 use Rattle.ax_buffer.specs.Buffer.{queue_of}
-use Rattle.ax_buffer.proofs.ListLemmas.{at_set, total-at}
+use Rattle.ax_buffer.proofs.ListLemmas.{at_set}
 use Rattle.ax_context.specs.declared.id.Id.{Id}
 use Rattle.ax_context.specs.declared.contexts.Context.{Context as Held}
 use Rattle.ax_context.specs.Slots.{at, OthersStay}
@@ -21,42 +21,21 @@ use Rattle.ax_core.specs.declared.record.Record.{Record}
 use Rattle.ax_core.specs.declared.record.Name.{Name}
 use Rattle.ax_core.specs.declared.controller.Controller.{Controller}
 use Rattle.ax_core.specs.Contexts.{same_id, waits_at}
-use Rattle.ax_core.specs.Flow.{shard_of, one_if, queued_as, named_as, answers_as, answered_as, starts_as, started_as, in_queues, in_outs, waits_for, is_owner, is_to_start, OwnsBegun, OwnsOnceBegun, QueuedStands, OutStands, out_of, IsFlow}
+use Rattle.ax_core.specs.Flow.{shard_of, one_if, answers_as, answered_as, starts_as, started_as, in_queues, in_outs, waits_for, is_owner, is_to_start, OwnsBegun, OwnsOnceBegun, QueuedStands, OutStands, out_of, IsFlow}
 use Rattle.ax_core.specs.Callbacks.{items_for, IsQueued, with_start}
 use Rattle.ax_core.specs.Events.{key_in, KeysStay}
+use Rattle.ax_core.specs.Order.{number_at}
 use Rattle.ax_core.proofs.AskLemmas.{shards_stay}
 use Rattle.ax_core.proofs.CalledLemmas.{others_queued, same_outs, post_answered}
 use Rattle.ax_core.proofs.Flows.{same_self, same_is, other_ids}
-use Rattle.ax_core.proofs.Forgotten.{named_there}
+use Rattle.ax_core.proofs.Forgotten.{in_outs_there}
 use Rattle.ax_core.proofs.Frames.{KeyIn}
-use Rattle.ax_core.proofs.Owners.{queued_there}
+use Rattle.ax_core.proofs.Owners.{in_queues_there}
 use Rattle.ax_core.proofs.Replaced.{IsOfAsks, of_asks, contains_none}
 use Rattle.ax_core.proofs.StartLemmas.{next_is, IsUnbegunOf, starts_others, starts_own}
 
 true_false : true ≡ false → ⊥
 true_false e = cc e
-
-inside_or : {X : Type 0} (s : ℕ) (xs : List (List X)) → (s < length xs) ⊎ (get_or xs s [] ≡ [])
-inside_or s [] = inr refl
-inside_or zero (x ∷ xs) = inl (omega arith)
-inside_or (suc s) (x ∷ xs) = elim (inside_or s xs) [ inl h ↦ inl (omega arith) | inr e ↦ inr e ]
-
--- what stands in a queue, or among what is out, is counted
-pub in_queues_there : (a : Controller) (shard : ℕ) (i : Item) → Contains (queue_of a.buffer shard) i → 1 ≤ in_queues a i.id i.slot
-in_queues_there a shard i c =
-    let here : 1 ≤ queued_as i.id i.slot (queue_of a.buffer shard) = queued_there i (queue_of a.buffer shard) c in
-    elim (inside_or shard a.buffer.queues) [
-      | inl x ↦ (let all : queued_as i.id i.slot (queue_of a.buffer shard) ≤ in_queues a i.id i.slot = total-at (queued_as i.id i.slot) a.buffer.queues shard [] x in omega (arith, here, all))
-      | inr x ↦ absurd (contains_none i (subst (λ (is : List Item). Contains is i) x c))
-    ]
-
-pub in_outs_there : (a : Controller) (shard : ℕ) (n : Name) → Contains (out_of a shard) n → 1 ≤ in_outs a n.id n.slot
-in_outs_there a shard n c =
-    let here : 1 ≤ named_as n.id n.slot (out_of a shard) = named_there n (out_of a shard) c.0 c.1 c.2 in
-    elim (inside_or shard a.outs.items) [
-      | inl x ↦ (let all : named_as n.id n.slot (out_of a shard) ≤ in_outs a n.id n.slot = total-at (named_as n.id n.slot) a.outs.items shard [] x in omega (arith, here, all))
-      | inr x ↦ absurd (contains_none n (subst (λ (ns : List Name). Contains ns n) x c))
-    ]
 
 -- a handler waits for these, and its context owns its key
 pub record WaitsFor (a : Controller) (id : Id) (key : Key) (xs : List Asked) (h : Held Record) : Type 0 where
@@ -92,6 +71,7 @@ pub record FlowsOn (old new : Controller) (id : Id) (key : Key) (asks : List Ask
   pub owned : owner_of old.accounts key ≡ Some id
   pub waited : waits_at old.program (at old.contexts id) ≡ was
   pub left : Left new id key xs (at new.contexts id)
+  pub number : (at new.contexts id ≡ None → ⊥) → number_at new id ≡ number_at old id
   pub others : OthersStay old.contexts new.contexts id
   pub program : new.program ≡ old.program
   pub settings : new.settings ≡ old.settings

@@ -20,13 +20,14 @@ use Rattle.ax_account.specs.declared.part.Waiting.TheVariants as item
 use Rattle.ax_account.specs.declared.part.Next.{Next}
 use Rattle.ax_account.specs.declared.part.Next.TheVariants as next
 use Rattle.ax_account.specs.Parts.{Part, next_of, taken_up, is_mark, may_idle}
+use Rattle.ax_account.specs.Queues.{has_key}
 use Rattle.ax_account.specs.Accounts.{part_of, waiting_of, Changes}
 use Rattle.ax_mailbox.specs.declared.mail.Mail.{Mail}
 use Rattle.ax_mailbox.specs.declared.mail.Mail.TheVariants as mail
 use Rattle.ax_time.specs.Epochs.{Book, Fits64}
 use Rattle.ax_time.specs.Timers.{times_of}
 use Rattle.ax_execution.specs.Accepted.{AreAccepted}
-use Rattle.ax_execution.specs.Contexts.{Context, Waiting, Row, Mark, owners, is_idle_with}
+use Rattle.ax_execution.specs.Contexts.{owners}
 use Rattle.ax_execution.specs.KeyControls.{KeyControl}
 use Rattle.ax_execution.specs.Machine.{Happening, Start, Deliver}
 use Rattle.ax_execution.specs.Allowed.{MayFireNow}
@@ -44,7 +45,7 @@ use Rattle.ax_core.specs.declared.effects.Ran.{Ran}
 use Rattle.ax_core.specs.declared.effects.Ran.TheVariants as ran
 use Rattle.ax_core.specs.declared.effects.Effects.{Effects}
 use Rattle.ax_core.specs.declared.controller.Controller.{Controller}
-use Rattle.ax_core.specs.Keys.{OwnerStands, ItemsStand, PartStands, KeyStands}
+use Rattle.ax_core.specs.Keys.{PartStands, KeyStands}
 use Rattle.ax_core.specs.Flow.{on_the_way}
 use Rattle.ax_core.specs.Epochs.{EpochsStand}
 use Rattle.ax_core.specs.Stands.{Stands}
@@ -57,9 +58,9 @@ use Rattle.ax_core.proofs.Called.{Calls, CallsBy, calls_start, calls_reply}
 use Rattle.ax_core.proofs.CalledLemmas.{starts_by, posted_length, started_owner, way_called}
 use Rattle.ax_core.proofs.CalledStands.{times_behind, control_behind, call_behind, ends_where, waits_where, control_waits, flight_waits, owed_waits, epoch_waits, keys_wait, flight_ends, owed_ends, keys_end, epochs_end, may_end}
 use Rattle.ax_core.proofs.EventLemmas.{posted}
-use Rattle.ax_core.proofs.Fronts.{IsStartOf}
+use Rattle.ax_core.proofs.Fronts.{behind_mail, IsStartOf}
 use Rattle.ax_core.proofs.FiresStand.{StandsBut, fires_as_told}
-use Rattle.ax_core.proofs.Open.{idle_stands}
+use Rattle.ax_core.proofs.Open.{idle_as, idle_stands}
 use Rattle.ax_core.proofs.TimerLemmas.{puts_at}
 
 true_false : {A : Type 0} → true ≡ false → A
@@ -68,23 +69,7 @@ true_false e = absurd (cc e)
 false_true : {A : Type 0} → false ≡ true → A
 false_true e = absurd (cc e)
 
--- ---- a key is idle in the control where it is so in the accounts
-
-idle_as : (p : Program) (ms : List Mail) (s : Slots Record) (key : Key) (part : Part) (due : List ℤ) (c : KeyControl) → PartStands p ms s key part due c → is_idle_on c ≡ may_idle part
-idle_as p ms s key part due c h = of part.owner part.waiting c.owner c.waiting h.owner h.items
-  where
-    of : (o : Option Id) (is : List Item) (d : Option Context) (ws : List Waiting) → OwnerStands p ms s key o d → ItemsStand p ms s key is ws → is_idle_with d ws ≡ (is_none o && is_mark (next_of is))
-    of None is (Some d) ws x y = absurd x
-    of (Some i) is None ws x y = absurd x
-    of (Some i) is (Some d) ws x y = refl
-    of None [] None [] x y = refl
-    of None [] None (w ∷ ws) x y = absurd y
-    of None (i ∷ is) None [] x y = absurd y
-    of None (item.Row i ∷ is) None (Row n f facts ∷ ws) x y = refl
-    of None (item.Row i ∷ is) None (Mark f w more ∷ ws) x y = absurd y.0
-    of None (item.Mark u v fired ∷ is) None (Row n f facts ∷ ws) x y = absurd y.0
-    of None (item.Mark u v fired ∷ is) None (Mark f w more ∷ ws) x y = refl
-
+-- a key that is handed over is idle where a mark is in front
 taken_idle : (is : List Item) → may_idle (taken_up is) ≡ is_mark (next_of is)
 taken_idle [] = refl
 taken_idle (item.Row i ∷ is) = refl
@@ -110,7 +95,7 @@ all_stand a key m x busy = record {
 
 module _ (a : Controller) (m : MachineControl) (first : Mail) (ns : List Mail) (id : Id) (h : Held Record) (after : Machine) (t : CodeTurn) (e : Happening) (c : Calls a m ns id h after t e)
     (x : StandsFor a m) (accepted : AreAccepted (shown_program a.program)) (fits : Fits64 a.epochs) (taken : a.mails.mails ≡ first ∷ ns) (s : Slots Record) (paid : IsPaid a.contexts s id (with_machine h.payload after))
-    (new : Controller) (f : Effects) (call : CallEnds (record a { mails = record { mails = ns; room = a.mails.room }; contexts = s }) new id (record h { payload = with_machine h.payload after }) t f) where
+    (new : Controller) (f : Effects) (call : CallEnds (record (behind_mail a ns) { contexts = s }) new id (record h { payload = with_machine h.payload after }) t f) where
   abbrev key : Key
   key = h.payload.facts.key
 
@@ -257,7 +242,7 @@ module _ (a : Controller) (m : MachineControl) (first : Mail) (ns : List Mail) (
       stands_over = record {
         wm = x.stands.wm;
         keys = keys_over;
-        idle = λ k differ i. hands.idle k differ ∙ x.stands.idle k (sym (ap is_idle_on (other_control m.controls key control k (differ_key k differ))) ∙ i);
+        idle = λ k differ i. ap (λ (ks : List Key). has_key ks k) hands.idle ∙ x.stands.idle k (sym (ap is_idle_on (other_control m.controls key control k (differ_key k differ))) ∙ i);
         flight =
             let fewer : in_flight_on behind + 1 ≡ in_flight_on m = flight_ends a m ns id h after t e c x orderly done in
             omega (arith, fewer, given.len, live_asked, x.stands.flight);
@@ -357,37 +342,37 @@ module _ (a : Controller) (m : MachineControl) (first : Mail) (ns : List Mail) (
 
 -- ---- the mails
 
-both_there : {X : Type 0} {P Q : X → Type 0} {R : Type 0} (o : Option X) → IsSomeAnd o P → IsSomeAnd o Q → ((y : X) → o ≡ Some y → P y → Q y → R) → R
+pub both_there : {X : Type 0} {P Q : X → Type 0} {R : Type 0} (o : Option X) → IsSomeAnd o P → IsSomeAnd o Q → ((y : X) → o ≡ Some y → P y → Q y → R) → R
 both_there None p q go = absurd p
 both_there (Some y) p q go = go y refl p q
 
 module _ (a new : Controller) (first : Mail) (ns : List Mail) (id : Id) (f : Effects) (sound : IsSound a) (accepted : AreAccepted (shown_program a.program)) (fits : Fits64 a.epochs) (taken : a.mails.mails ≡ first ∷ ns) where
   -- a handler begins
-  pub runs_start : IsStartOf id first → Has a.contexts id (λ h. f.ran ≡ ran.Start h.number) → Has a.contexts id (Started (record a { mails = record { mails = ns; room = a.mails.room } }) new id f)
+  pub runs_start : IsStartOf id first → Has a.contexts id (λ h. f.ran ≡ ran.Start h.number) → Has a.contexts id (Started (behind_mail a ns) new id f)
       → (m : MachineControl) → StandsFor a m → Runs a new f m
   runs_start starts said started m x = both_there (at a.contexts id) said started of
     where
-      of : (h : Held Record) → at a.contexts id ≡ Some h → f.ran ≡ ran.Start h.number → Started (record a { mails = record { mails = ns; room = a.mails.room } }) new id f h → Runs a new f m
+      of : (h : Held Record) → at a.contexts id ≡ Some h → f.ran ≡ ran.Start h.number → Started (behind_mail a ns) new id f h → Runs a new f m
       of h here is it =
           let b : HasBegun a.program a.contexts it.contexts id h it.turn = it.begun in
           let payload : it.begun.payload ≡ with_machine h.payload it.begun.begins.after = it.begun.begins.there in
           runs_as a m first ns id h it.begun.begins.after it.turn (Start h.payload.facts.key) (calls_start a m first ns id h it.contexts it.turn sound.flow x taken starts here b) x accepted fits taken it.contexts
           (subst (λ (r : Record). IsPaid a.contexts it.contexts id r) payload it.begun.paid) new f
-          (subst (λ (r : Record). CallEnds (record a { mails = record { mails = ns; room = a.mails.room }; contexts = it.contexts }) new id (record h { payload = r }) it.turn f) payload it.ended)
+          (subst (λ (r : Record). CallEnds (record (behind_mail a ns) { contexts = it.contexts }) new id (record h { payload = r }) it.turn f) payload it.ended)
           (ran.Start h.number) is refl refl
 
   -- it is given an answer
   pub runs_reply : (slot : ℕ) (answer : Answer) → first ≡ mail.Reply id slot answer → Has a.contexts id (λ h. f.ran ≡ ran.Reply h.number slot)
-      → Has a.contexts id (Replied (record a { mails = record { mails = ns; room = a.mails.room } }) new id slot answer f) → (m : MachineControl) → StandsFor a m → Runs a new f m
+      → Has a.contexts id (Replied (behind_mail a ns) new id slot answer f) → (m : MachineControl) → StandsFor a m → Runs a new f m
   runs_reply slot answer replies said replied m x = both_there (at a.contexts id) said replied of
     where
-      of : (h : Held Record) → at a.contexts id ≡ Some h → f.ran ≡ ran.Reply h.number slot → Replied (record a { mails = record { mails = ns; room = a.mails.room } }) new id slot answer f h → Runs a new f m
+      of : (h : Held Record) → at a.contexts id ≡ Some h → f.ran ≡ ran.Reply h.number slot → Replied (behind_mail a ns) new id slot answer f h → Runs a new f m
       of h here is it =
           let by : CallsBy a m ns id h it.resumed.payload it.turn (Deliver h.payload.facts.key slot) =
           calls_reply a m ns id slot answer h it.contexts it.turn sound.flow x (taken ∙ ap (λ (y : Mail). y ∷ ns) replies) here it.resumed in
           runs_as a m first ns id h by.after it.turn (Deliver h.payload.facts.key slot) by.calls x accepted fits taken it.contexts
           (subst (λ (r : Record). IsPaid a.contexts it.contexts id r) by.payload it.resumed.paid) new f
-          (subst (λ (r : Record). CallEnds (record a { mails = record { mails = ns; room = a.mails.room }; contexts = it.contexts }) new id (record h { payload = r }) it.turn f) by.payload it.ended)
+          (subst (λ (r : Record). CallEnds (record (behind_mail a ns) { contexts = it.contexts }) new id (record h { payload = r }) it.turn f) by.payload it.ended)
           (ran.Reply h.number slot) is refl refl
 
 -- the end of such a callback may come, where its handler has begun or was given the answer
@@ -396,15 +381,15 @@ module _ (a : Controller) (first : Mail) (ns : List Mail) (id : Id) (sound : IsS
   orderly_now = reached_orderly (rules_of a.settings) (shown_program a.program) sound.control accepted sound.stands.reached
 
   pub ends_start : IsStartOf id first → (s : Slots Record) (t : CodeTurn) (h : Held Record) → at a.contexts id ≡ Some h → (b : HasBegun a.program a.contexts s id h t)
-      → MayEnd (record a { mails = record { mails = ns; room = a.mails.room }; contexts = s }) id t (record h { payload = b.payload })
+      → MayEnd (record (behind_mail a ns) { contexts = s }) id t (record h { payload = b.payload })
   ends_start starts s t h here b =
-      subst (λ (r : Record). MayEnd (record a { mails = record { mails = ns; room = a.mails.room }; contexts = s }) id t (record h { payload = r })) (sym b.begins.there)
+      subst (λ (r : Record). MayEnd (record (behind_mail a ns) { contexts = s }) id t (record h { payload = r })) (sym b.begins.there)
       (may_end a sound.control ns id h b.begins.after t (Start h.payload.facts.key) (calls_start a sound.control first ns id h s t sound.flow sound.stands taken starts here b) sound.stands orderly_now s fits)
 
   pub ends_reply : (slot : ℕ) (answer : Answer) → first ≡ mail.Reply id slot answer → (s : Slots Record) (t : CodeTurn) (h : Held Record) → at a.contexts id ≡ Some h
-      → (b : HasResumed a.program a.contexts s id h slot answer t) → MayEnd (record a { mails = record { mails = ns; room = a.mails.room }; contexts = s }) id t (record h { payload = b.payload })
+      → (b : HasResumed a.program a.contexts s id h slot answer t) → MayEnd (record (behind_mail a ns) { contexts = s }) id t (record h { payload = b.payload })
   ends_reply slot answer replies s t h here b =
       let by : CallsBy a sound.control ns id h b.payload t (Deliver h.payload.facts.key slot) =
       calls_reply a sound.control ns id slot answer h s t sound.flow sound.stands (taken ∙ ap (λ (y : Mail). y ∷ ns) replies) here b in
-      subst (λ (r : Record). MayEnd (record a { mails = record { mails = ns; room = a.mails.room }; contexts = s }) id t (record h { payload = r })) (sym by.payload)
+      subst (λ (r : Record). MayEnd (record (behind_mail a ns) { contexts = s }) id t (record h { payload = r })) (sym by.payload)
       (may_end a sound.control ns id h by.after t (Deliver h.payload.facts.key slot) by.calls sound.stands orderly_now s fits)

@@ -41,6 +41,7 @@ use Rattle.ax_core.specs.Epochs.{EpochsStand}
 use Rattle.ax_core.specs.Sound.{rules_of, StandsFor}
 use Rattle.ax_core.specs.Callbacks.{with_machine, behind_marks, ended, all_left, AllMayLeave, row_epochs}
 use Rattle.ax_core.specs.Calls.{MayEnd}
+use Rattle.ax_core.proofs.Fronts.{behind_mail}
 use Rattle.ax_core.proofs.CallLemmas.{is_gone, is_live, held_on}
 use Rattle.ax_core.proofs.Called.{Calls}
 use Rattle.ax_core.proofs.EventLemmas.{no_row_numbered, own_items, keys_called}
@@ -239,7 +240,7 @@ module _ (a : Controller) (m : MachineControl) (ns : List Mail) (id : Id) (h : H
       let wide : length (slots (machine.control_of a.program after)) ≤ program_width (shown_program a.program) = slots_wide (program_width (shown_program a.program)) (machine.control_of a.program after) c.sound.wide in
       omega (arith, wide, few_wide a.program, c.count)
 
-  pub may_end : (s : Slots Record) → Fits64 a.epochs → MayEnd (record a { mails = record { mails = ns; room = a.mails.room }; contexts = s }) id t (record h { payload = with_machine h.payload after })
+  pub may_end : (s : Slots Record) → Fits64 a.epochs → MayEnd (record (behind_mail a ns) { contexts = s }) id t (record h { payload = with_machine h.payload after })
   may_end s fits = record {
     few = few_left;
     owner = c.owns;

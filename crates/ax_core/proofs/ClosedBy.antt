@@ -107,18 +107,18 @@ same_tests j k = by_cases (bytes_eq j k)
     of Equal e x = true_false (sym (subst (λ (i : Key). bytes_eq j i ≡ true) (exact_bytes j k e) (same_key j)) ∙ x)
     of Greater e x = ap is_eq e
 
-same_lists : (j : Key) (ks : List Key) → has_key ks j ≡ list_any (bytes_eq j) ks
+pub same_lists : (j : Key) (ks : List Key) → has_key ks j ≡ list_any (bytes_eq j) ks
 same_lists j [] = refl
 same_lists j (k ∷ ks) = ap₂ (λ (x y : Bool). x || y) (same_tests j k) (same_lists j ks)
 
-contains_to : (j : Key) (ks : List Key) → list_any (bytes_eq j) ks ≡ true → Contains ks j
+pub contains_to : (j : Key) (ks : List Key) → list_any (bytes_eq j) ks ≡ true → Contains ks j
 contains_to j [] h = false_true h
 contains_to j (k ∷ ks) h = ⊎_elim
     (λ (e : j ≡ k). (0, omega arith, sym e))
     (λ (x : list_any (bytes_eq j) ks ≡ true). let c = contains_to j ks x in (suc c.0, (let l : c.0 < length ks = c.1 in omega arith), c.2))
     (among j k ks h)
 
-contains_from : (j : Key) (ks : List Key) (i : ℕ) → i < length ks → slice_index_or ks i j ≡ j → list_any (bytes_eq j) ks ≡ true
+pub contains_from : (j : Key) (ks : List Key) (i : ℕ) → i < length ks → slice_index_or ks i j ≡ j → list_any (bytes_eq j) ks ≡ true
 contains_from j [] i l e = absurd (omega (arith, l))
 contains_from j (k ∷ ks) zero l e = has_head j k ks (sym e)
 contains_from j (k ∷ ks) (suc i) l e = or_right (bytes_eq j k) (list_any (bytes_eq j) ks) (contains_from j ks i (omega (arith, l)) e)

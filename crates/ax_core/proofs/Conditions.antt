@@ -1,5 +1,5 @@
 -- A mail in front names a context that may be called.
-use Rattle.std.proofs.Common.{◌≡◌, ℕ, ◌+◌, ◌≤◌, ◌<◌, Bool, true, false, List, [], ◌∷◌, length, Option, Some, None, IsSome, IsSomeAnd, refl, sym, ap, ◌∙◌, subst, arith}
+use Rattle.std.proofs.Common.{◌≡◌, ℕ, ◌+◌, ◌≤◌, ◌<◌, Bool, true, false, List, ◌∷◌, length, Option, Some, None, IsSome, IsSomeAnd, refl, sym, ap, ◌∙◌, subst, arith}
 use Rattle.ax_text.specs.declared.vocabulary.Answer.{Answer}
 use Rattle.ax_text.specs.Programs.{program_width}
 use Rattle.ax_text.specs.Controls.{slots}
@@ -33,15 +33,11 @@ use Rattle.ax_core.proofs.CalledRuns.{ends_start, ends_reply}
 use Rattle.ax_core.proofs.CallRooms.{requests_fit, contexts_fit}
 use Rattle.ax_core.proofs.Deliveries.{mails_fit}
 use Rattle.ax_core.proofs.Ends.{has_held, held_has, has_at}
-use Rattle.ax_core.proofs.Fronts.{IsStartOf, start_counts}
+use Rattle.ax_core.proofs.Fronts.{behind_mail, IsStartOf, start_counts}
 use Rattle.ax_core.proofs.Owners.{RunsAt, runs_at, names_itself}
 use Rattle.ax_core.proofs.Serves.{WaitsAt as Waiter, waits_there}
 
--- the controller behind the mail that was taken
-abbrev pub behind_mail : Controller → List Mail → Controller
-behind_mail a ns = record a { mails = record { mails = ns; room = a.mails.room } }
-
-at_least : (b : Bool) → 1 ≤ one_if b → b ≡ true
+pub at_least : (b : Bool) → 1 ≤ one_if b → b ≡ true
 at_least true h = refl
 at_least false h = absurd (omega arith)
 

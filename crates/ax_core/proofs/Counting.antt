@@ -1,5 +1,5 @@
 -- How often a request stands in queues, among what is out, and among mails.
-use Rattle.std.proofs.Common.{◌≡◌, ℕ, zero, suc, ◌+◌, ◌<◌, List, [], ◌∷◌, ◌++◌, length, get_or, set, take, drop, refl, ap, subst, Contains, length-append, arith}
+use Rattle.std.proofs.Common.{◌≡◌, ◌⊎◌, ℕ, zero, suc, ◌+◌, ◌<◌, List, [], ◌∷◌, ◌++◌, length, get_or, set, take, drop, inl, inr, refl, ap, subst, Contains, length-append, arith}
 use Rattle.std.proofs.lemmas.List.{take-append-drop}
 use Rattle.ax_buffer.specs.declared.items.Item.{Item}
 use Rattle.ax_buffer.specs.declared.items.Reply.{Reply}
@@ -11,6 +11,12 @@ use Rattle.ax_core.specs.declared.record.Name.{Name}
 use Rattle.ax_core.specs.Flow.{one_if, names_request, queued_as, named_as, answered_as, started_as}
 use Rattle.ax_core.specs.Batches.{mails_in}
 use Rattle.ax_core.specs.Events.{names_in, names_of}
+
+-- a list is longer than a number, or there is nothing at it
+pub inside_or : {X : Type 0} (s : ℕ) (xs : List (List X)) → (s < length xs) ⊎ (get_or xs s [] ≡ [])
+inside_or s [] = inr refl
+inside_or zero (x ∷ xs) = inl (omega arith)
+inside_or (suc s) (x ∷ xs) = elim (inside_or s xs) [ inl h ↦ inl (omega arith) | inr e ↦ inr e ]
 
 pub queued_append : (id : Id) (slot : ℕ) (xs ys : List Item) → queued_as id slot (xs ++ ys) ≡ queued_as id slot xs + queued_as id slot ys
 queued_append id slot [] ys = omega arith

@@ -1,7 +1,8 @@
 -- The end of a callback, from what its parts do.
-use Rattle.std.proofs.Common.{◌≡◌, ℕ, ◌+◌, ◌≤◌, ◌<◌, ℤ, List, length, true, false, Option, Some, None, is_some, IsSome, IsSomeAnd, Result, IfOk, refl, sym, ap, ◌∙◌, subst, arith}
+use Rattle.std.proofs.Common.{◌≡◌, ℕ, ◌+◌, ℤ, List, length, true, false, Option, Some, None, IsSomeAnd, Result, IfOk, refl, sym, ap, ◌∙◌, subst, arith}
 use Rattle.ax_base.specs.declared.outside.NoMemory.{NoMemory}
 use Rattle.ax_text.specs.declared.vocabulary.Answer.{Answer}
+use Rattle.ax_text.specs.declared.vocabulary.TimerOp.{TimerOp}
 use Rattle.ax_text.specs.Run.{times_after}
 use Rattle.ax_future.specs.declared.callback.Turn.{Turn}
 use Rattle.ax_machine.specs.Entries.{Key}
@@ -12,7 +13,7 @@ use Rattle.ax_context.specs.declared.contexts.Released.{Released}
 use Rattle.ax_context.specs.declared.contexts.Released.TheVariants as released
 use Rattle.ax_context.specs.Released.{Answers, left, gone_count}
 use Rattle.ax_context.specs.Slots.{Slots, at, Has, live_count, OthersStay, IsPaid}
-use Rattle.ax_account.specs.Accounts.{owner_of, waiting_of}
+use Rattle.ax_account.specs.Accounts.{waiting_of}
 use Rattle.ax_time.specs.declared.timer.Timer.{Timer}
 use Rattle.ax_time.specs.Epochs.{Book}
 use Rattle.ax_time.specs.Timers.{PutsTimes, times_of}
@@ -44,95 +45,109 @@ live_is released.Live f = refl
 live_is (released.Gone payload epoch number) f = absurd (f payload epoch number refl)
 
 -- its timers are set, and its requests asked
-module _ (a : Controller) (id : Id) (t : Turn) (h : Held Record) (there : at a.contexts id ≡ Some h) (key : Key) (named : key ≡ h.payload.facts.key) (timers : List Timer) (contexts : Slots Record) (buffer : Buffer) (shard : ℕ)
-    (placed : shard ≡ shard_of a.settings key) (times : PutsTimes a.timers timers key (times_after t.timer_ops (times_of a.timers key)))
-    (held : IsHeld a.contexts contexts id (length t.asks)) (queued : IsQueued a.buffer buffer shard (items_for id key t.asks)) where
-  is_done : IsDone a (record a { contexts = contexts; buffer = buffer; timers = timers }) id h t
-  is_done = record {
-    times = subst (λ (k : Key). PutsTimes a.timers timers k (times_after t.timer_ops (times_of a.timers k))) named times;
-    held = held;
-    queued = subst (λ (k : Key). IsQueued a.buffer buffer (shard_of a.settings k) (items_for id k t.asks)) named (subst (λ (n : ℕ). IsQueued a.buffer buffer n (items_for id key t.asks)) placed queued);
-    same = refl;
-  }
+pub record Asks (a : Controller) (id : Id) (t : Turn) (key : Key) (timers : List Timer) (contexts : Slots Record) (buffer : Buffer) (h : Held Record) : Type 0 where
+  pub there : at a.contexts id ≡ Some h
+  pub may : MayEnd a id t h
+  pub named : key ≡ h.payload.facts.key
+  pub done : IsDone a (record a { contexts = contexts; buffer = buffer; timers = timers }) id h t
 
-  -- a reference is given up
-  module _ (s : Slots Record) (result : Released Record) (answer : Has contexts id (λ c. Answers c result)) (counted : Has contexts id (λ c. at s id ≡ left c result))
-      (others : OthersStay contexts s id) (len : live_count s + gone_count result ≡ live_count contexts) (limit : s.limit ≡ contexts.limit) where
-    more : at contexts id ≡ Some (record h { count = h.count + length t.asks })
-    more = has_at (λ (c : Held Record). at contexts id ≡ Some (record c { count = c.count + length t.asks })) (at a.contexts id) h there held.counted
+pub asks_here : (a : Controller) (id : Id) (t : Turn) (key : Key) (got : Record) (ops : List TimerOp) (timers : List Timer) (contexts : Slots Record) (buffer : Buffer) (shard : ℕ)
+    → Has a.contexts id (MayEnd a id t) → Has a.contexts id (λ h. got ≡ h.payload) → key ≡ got.facts.key → ops ≡ t.timer_ops → PutsTimes a.timers timers key (times_after ops (times_of a.timers key))
+    → shard ≡ shard_of a.settings key → IsHeld a.contexts contexts id (length t.asks) → IsQueued a.buffer buffer shard (items_for id key t.asks) → (h : Held Record) × Asks a id t key timers contexts buffer h
+asks_here a id t key got ops timers contexts buffer shard may is_got copied all times placed held queued = of (has_held (MayEnd a id t) (at a.contexts id) may)
+  where
+    of : (h : Held Record) × ((at a.contexts id ≡ Some h) × MayEnd a id t h) → (h : Held Record) × Asks a id t key timers contexts buffer h
+    of it =
+        let named : key ≡ it.0.payload.facts.key = copied ∙ ap (λ (r : Record). r.facts.key) (has_at (λ (h : Held Record). got ≡ h.payload) (at a.contexts id) it.0 it.1.0 is_got) in (
+          it.0,
+          record {
+            there = it.1.0;
+            may = it.1.1;
+            named = named;
+            done = record {
+              times = subst (λ (k : Key). PutsTimes a.timers timers k (times_after t.timer_ops (times_of a.timers k))) named
+                  (subst (λ (os : List TimerOp). PutsTimes a.timers timers key (times_after os (times_of a.timers key))) all times);
+              held = held;
+              queued = subst (λ (k : Key). IsQueued a.buffer buffer (shard_of a.settings k) (items_for id k t.asks)) named (subst (λ (n : ℕ). IsQueued a.buffer buffer n (items_for id key t.asks)) placed queued);
+              same = refl;
+            };
+          },
+        )
 
-    answers : Answers (record h { count = h.count + length t.asks }) result
-    answers = has_at (λ (c : Held Record). Answers c result) (at contexts id) (record h { count = h.count + length t.asks }) more answer
+-- a reference is given up
+pub record Leaves (contexts s : Slots Record) (id : Id) (result : Released Record) : Type 0 where
+  pub answer : Has contexts id (λ c. Answers c result)
+  pub counted : Has contexts id (λ c. at s id ≡ left c result)
+  pub others : OthersStay contexts s id
+  pub len : live_count s + gone_count result ≡ live_count contexts
+  pub limit : s.limit ≡ contexts.limit
 
-    leaves : at s id ≡ left (record h { count = h.count + length t.asks }) result
-    leaves = has_at (λ (c : Held Record). at s id ≡ left c result) (at contexts id) (record h { count = h.count + length t.asks }) more counted
+module _ (a : Controller) (id : Id) (t : Turn) (key : Key) (timers : List Timer) (contexts : Slots Record) (buffer : Buffer) (h : Held Record) (asks : Asks a id t key timers contexts buffer h) (s : Slots Record) where
+  -- with the references of its requests
+  abbrev more : Held Record
+  more = record h { count = h.count + length t.asks }
 
-    pub call_waits : (ran : Ran) → result ≡ released.Live
-        → CallEnds a (record a { contexts = s; buffer = buffer; timers = timers }) id h t (record { key = key; ran = ran; outs = t.outs; gone = false; fired = None })
-    call_waits ran is = record {
-      mid = record a { contexts = contexts; buffer = buffer; timers = timers };
-      done = is_done;
-      ends = record {
-        more = subst (λ (r : Released Record). Answers (record h { count = h.count + length t.asks }) r) is answers;
-        left = leaves ∙ ap (left (record h { count = h.count + length t.asks })) is;
-        others = others;
-        len = (let none : gone_count result ≡ 0 = ap gone_count is in omega (arith, len, none));
-        limit = limit;
-        same = refl;
-      };
-      key = named;
-      outs = refl;
-    }
+  counted_more : at contexts id ≡ Some more
+  counted_more = has_at (λ (c : Held Record). at contexts id ≡ Some (record c { count = c.count + length t.asks })) (at a.contexts id) h asks.there asks.done.held.counted
 
-    module _ (payload : Record) (epoch number : ℕ) (is : result ≡ released.Gone payload epoch number) where
-      gone : Answers (record h { count = h.count + length t.asks }) (released.Gone payload epoch number)
-      gone = subst (λ (r : Released Record). Answers (record h { count = h.count + length t.asks }) r) is answers
-
-      -- its row may leave its epoch, and its key may go on
-      module _ (may : MayEnd a id t h) where
-        both : AllMayLeave (row_epochs payload.handler epoch) a.epochs
-            × AllMayLeave (ended (times_after t.timer_ops (times_of a.timers h.payload.facts.key)) (waiting_of a.accounts h.payload.facts.key)) (all_left (row_epochs payload.handler epoch) a.epochs)
-        both = subst (λ (r : Record). AllMayLeave (row_epochs r.handler epoch) a.epochs
-            × AllMayLeave (ended (times_after t.timer_ops (times_of a.timers h.payload.facts.key)) (waiting_of a.accounts h.payload.facts.key)) (all_left (row_epochs r.handler epoch) a.epochs)) (sym gone.1)
-            (subst (λ (e : ℕ). AllMayLeave (row_epochs h.payload.handler e) a.epochs
-            × AllMayLeave (ended (times_after t.timer_ops (times_of a.timers h.payload.facts.key)) (waiting_of a.accounts h.payload.facts.key)) (all_left (row_epochs h.payload.handler e) a.epochs)) (sym gone.2)
-            (may.left gone.0))
-
-        pub row_leaves : AllMayLeave (row_epochs payload.handler epoch) a.epochs
-        row_leaves = both.0
-
-        pub marks_leave : AllMayLeave (ended (times_of timers key) (waiting_of a.accounts key)) (all_left (row_epochs payload.handler epoch) a.epochs)
-        marks_leave = subst (λ (k : Key). AllMayLeave (ended (times_of timers k) (waiting_of a.accounts k)) (all_left (row_epochs payload.handler epoch) a.epochs)) (sym named)
-            (subst (λ (ts : List ℤ). AllMayLeave (ended ts (waiting_of a.accounts h.payload.facts.key)) (all_left (row_epochs payload.handler epoch) a.epochs)) (sym (puts_at a.timers timers h.payload.facts.key (times_after t.timer_ops (times_of a.timers h.payload.facts.key)) is_done.times)) both.1)
-
-        pub is_owned : IsSome (owner_of a.accounts key)
-        is_owned = ap is_some (ap (owner_of a.accounts) named ∙ may.owner)
-
-      pub context_left : live_count a.contexts ≤ a.contexts.limit → live_count s < s.limit
-      context_left few = (let one : gone_count result ≡ 1 = ap gone_count is in omega (arith, len, one, held.len, held.limit, limit, few))
-
-      pub call_gives_up : (ran : Ran) (epochs : Book) → epochs ≡ all_left (row_epochs payload.handler epoch) a.epochs → (b : Controller) (fired : Option Fired)
-          → GoesOn (record a { contexts = s; buffer = buffer; timers = timers; epochs = epochs }) b key fired
-          → CallEnds a b id h t (record { key = key; ran = ran; outs = t.outs; gone = true; fired = fired })
-      call_gives_up ran epochs left_by b fired goes = record {
+  -- and it waits on
+  pub call_waits : Leaves contexts s id released.Live → (ran : Ran)
+      → Has a.contexts id (λ g. CallEnds a (record a { contexts = s; buffer = buffer; timers = timers }) id g t (record { key = key; ran = ran; outs = t.outs; gone = false; fired = None }))
+  call_waits leaves ran = held_has (λ (g : Held Record). CallEnds a (record a { contexts = s; buffer = buffer; timers = timers }) id g t (record { key = key; ran = ran; outs = t.outs; gone = false; fired = None }))
+      (at a.contexts id) h asks.there (record {
         mid = record a { contexts = contexts; buffer = buffer; timers = timers };
-        done = is_done;
+        done = asks.done;
         ends = record {
-          mid = record a { contexts = s; buffer = buffer; timers = timers; epochs = epochs };
-          given = record {
-            last = gone.0;
-            free = leaves ∙ ap (left (record h { count = h.count + length t.asks })) is;
-            others = others;
-            len = (let one : gone_count result ≡ 1 = ap gone_count is in omega (arith, len, one));
-            limit = limit;
-            epochs = left_by ∙ ap (λ (r : Record). all_left (row_epochs r.handler epoch) a.epochs) gone.1 ∙ ap (λ (e : ℕ). all_left (row_epochs h.payload.handler e) a.epochs) gone.2;
-            same = refl;
-          };
-          goes = subst (λ (k : Key). GoesOn (record a { contexts = s; buffer = buffer; timers = timers; epochs = epochs }) b k fired) named goes;
+          more = has_at (λ (c : Held Record). Answers c released.Live) (at contexts id) more counted_more leaves.answer;
+          left = has_at (λ (c : Held Record). at s id ≡ left c released.Live) (at contexts id) more counted_more leaves.counted;
+          others = leaves.others;
+          len = omega (arith, leaves.len);
+          limit = leaves.limit;
+          same = refl;
         };
-        key = named;
+        key = asks.named;
         outs = refl;
-      }
+      })
+
+  -- or it is given up
+  module _ (payload : Record) (epoch number : ℕ) (leaves : Leaves contexts s id (released.Gone payload epoch number)) where
+    gone : Answers more (released.Gone payload epoch number)
+    gone = has_at (λ (c : Held Record). Answers c (released.Gone payload epoch number)) (at contexts id) more counted_more leaves.answer
+
+    -- its row leaves its epoch, and then the marks that fire nothing may leave theirs
+    pub marks_leave : AllMayLeave (ended (times_of timers key) (waiting_of a.accounts key)) (all_left (row_epochs payload.handler epoch) a.epochs)
+    marks_leave =
+        let both = asks.may.left gone.0 in
+        let same : all_left (row_epochs h.payload.handler h.epoch) a.epochs ≡ all_left (row_epochs payload.handler epoch) a.epochs =
+        sym (ap (λ (r : Record). all_left (row_epochs r.handler epoch) a.epochs) gone.1 ∙ ap (λ (e : ℕ). all_left (row_epochs h.payload.handler e) a.epochs) gone.2) in
+        subst (λ (book : Book). AllMayLeave (ended (times_of timers key) (waiting_of a.accounts key)) book) same
+        (subst (λ (k : Key). AllMayLeave (ended (times_of timers k) (waiting_of a.accounts k)) (all_left (row_epochs h.payload.handler h.epoch) a.epochs)) (sym asks.named)
+        (subst (λ (ts : List ℤ). AllMayLeave (ended ts (waiting_of a.accounts h.payload.facts.key)) (all_left (row_epochs h.payload.handler h.epoch) a.epochs))
+        (sym (puts_at a.timers timers h.payload.facts.key (times_after t.timer_ops (times_of a.timers h.payload.facts.key)) asks.done.times)) both.1))
+
+    -- and its key goes on
+    pub call_gives_up : (ran : Ran) (epochs : Book) → epochs ≡ all_left (row_epochs payload.handler epoch) a.epochs → (b : Controller) (fired : Option Fired)
+        → GoesOn (record a { contexts = s; buffer = buffer; timers = timers; epochs = epochs }) b key fired
+        → Has a.contexts id (λ g. CallEnds a b id g t (record { key = key; ran = ran; outs = t.outs; gone = true; fired = fired }))
+    call_gives_up ran epochs left_by b fired goes = held_has (λ (g : Held Record). CallEnds a b id g t (record { key = key; ran = ran; outs = t.outs; gone = true; fired = fired })) (at a.contexts id) h asks.there (record {
+      mid = record a { contexts = contexts; buffer = buffer; timers = timers };
+      done = asks.done;
+      ends = record {
+        mid = record a { contexts = s; buffer = buffer; timers = timers; epochs = epochs };
+        given = record {
+          last = gone.0;
+          free = has_at (λ (c : Held Record). at s id ≡ left c (released.Gone payload epoch number)) (at contexts id) more counted_more leaves.counted;
+          others = leaves.others;
+          len = leaves.len;
+          limit = leaves.limit;
+          epochs = left_by ∙ ap (λ (r : Record). all_left (row_epochs r.handler epoch) a.epochs) gone.1 ∙ ap (λ (e : ℕ). all_left (row_epochs h.payload.handler e) a.epochs) gone.2;
+          same = refl;
+        };
+        goes = subst (λ (k : Key). GoesOn (record a { contexts = s; buffer = buffer; timers = timers; epochs = epochs }) b k fired) asks.named goes;
+      };
+      key = asks.named;
+      outs = refl;
+    })
 
 -- a callback whose handler has begun, or was given an answer, has ended
 module _ (a b : Controller) (s : Slots Record) (id : Id) (t : Turn) (result : Result Effects NoMemory) where

@@ -17,8 +17,9 @@ use Rattle.ax_core.specs.Contexts.{waits_at}
 use Rattle.ax_core.specs.Flow.{shard_of, one_if, names_request, named_as, in_outs, out_of, waits_for, OutStands, IsFlow}
 use Rattle.ax_core.specs.Batches.{IsPlaceOf, Forgets}
 use Rattle.ax_core.specs.Events.{names_of, IsBatchOut}
-use Rattle.ax_core.proofs.Counting.{named_append, length_replies}
+use Rattle.ax_core.proofs.Counting.{inside_or, named_append, length_replies}
 use Rattle.ax_core.proofs.Owners.{names_itself}
+use Rattle.ax_core.proofs.Replaced.{contains_none}
 
 abbrev pub name_of : Reply → Name
 name_of r = record { id = r.id; slot = r.slot }
@@ -30,6 +31,15 @@ named_there n (x ∷ xs) zero lt e =
     let named : names_request n.id n.slot x.id x.slot ≡ true = subst (λ (m : Name). names_request n.id n.slot m.id m.slot ≡ true) (sym e) (names_itself n.id n.slot) in
     omega (arith, ap one_if named)
 named_there n (x ∷ xs) (suc k) lt e = omega (arith, named_there n xs k (omega arith) e)
+
+-- and in all that is out
+pub in_outs_there : (a : Controller) (shard : ℕ) (n : Name) → Contains (out_of a shard) n → 1 ≤ in_outs a n.id n.slot
+in_outs_there a shard n c =
+    let here : 1 ≤ named_as n.id n.slot (out_of a shard) = named_there n (out_of a shard) c.0 c.1 c.2 in
+    elim (inside_or shard a.outs.items) [
+      | inl x ↦ (let all : named_as n.id n.slot (out_of a shard) ≤ in_outs a n.id n.slot = total-at (named_as n.id n.slot) a.outs.items shard [] x in omega (arith, here, all))
+      | inr x ↦ absurd (contains_none n (subst (λ (ns : List Name). Contains ns n) x c))
+    ]
 
 at_front : (xs ys : List Name) (k : ℕ) (d : Name) → k < length xs → get_or (xs ++ ys) k d ≡ get_or xs k d
 at_front [] ys k d h = absurd (omega arith)
@@ -118,11 +128,6 @@ forgets_none a = record {
   out = λ t n h. h;
   outs = λ s before behind is. sym (ap (set a.outs.items s) (sym is) ∙ set-get_or a.outs.items s []);
 }
-
-inside_or : {X : Type 0} (s : ℕ) (xs : List (List X)) → (s < length xs) ⊎ (get_or xs s [] ≡ [])
-inside_or s [] = inr refl
-inside_or zero (x ∷ xs) = inl (omega arith)
-inside_or (suc s) (x ∷ xs) = elim (inside_or s xs) [ inl h ↦ inl (omega arith) | inr e ↦ inr e ]
 
 at_most : (b : Bool) → one_if b ≤ 1
 at_most true = omega arith

@@ -25,6 +25,10 @@ use Rattle.ax_core.proofs.Open.{and_parts}
 use Rattle.ax_core.proofs.Owners.{names_itself}
 use Rattle.ax_core.proofs.Serves.{WaitsAt, waits_there}
 
+-- the controller behind the mail that was taken
+abbrev pub behind_mail : Controller → List Mail → Controller
+behind_mail a ns = record a { mails = record { mails = ns; room = a.mails.room } }
+
 -- what is held of the owner of a key, as the control has it
 pub record HeldAs (p : Program) (ms : List Mail) (key : Key) (id : Id) (h : Held Record) (o : Option Context) : Type 0 where
   pub context : Context

@@ -49,4 +49,7 @@ pub mod CalledFlow
 pub mod CallFlows
 pub mod MailRuns
 pub mod Orders
+pub mod CallOrder
 pub mod BatchFits
+pub mod IdleKeys
+pub mod MailWaits

@@ -17,12 +17,15 @@ use Rattle.ax_core.specs.declared.effects.Effects.{Effects}
 use Rattle.ax_core.specs.declared.effects.Ran.TheVariants as ran
 use Rattle.ax_core.specs.declared.controller.Controller.{Controller}
 use Rattle.ax_core.specs.Sound.{InRange, StandsFor, IsSound}
-use Rattle.ax_core.specs.Events.{SameRules, FiresNext, Runs, event_of}
+use Rattle.ax_core.specs.Events.{SameRules, FiresNext, Runs, event_of, KeysStay}
+use Rattle.ax_core.specs.Order.{RunsFirst, idle_in}
 use Rattle.ax_core.specs.Calls.{MayStart, MayReply, Started, Replied}
-use Rattle.ax_core.proofs.Fronts.{IsStartOf}
+use Rattle.ax_core.proofs.CallOrder.{first_start, first_reply}
+use Rattle.ax_core.proofs.Fronts.{behind_mail, IsStartOf}
 use Rattle.ax_core.proofs.CalledRuns.{runs_start, runs_reply}
 use Rattle.ax_core.proofs.CallFlows.{Follows, follows_rules, follows_rooms, start_follows, reply_follows}
-use Rattle.ax_core.proofs.Conditions.{behind_mail, may_start, may_reply}
+use Rattle.ax_core.proofs.Conditions.{may_start, may_reply}
+use Rattle.ax_core.proofs.IdleKeys.{started_idle, replied_idle}
 
 -- behind the callback, and the firing if any, it stands for what is left
 stands_next : (a b : Controller) (fired : Option Fired) (m : MachineControl) → FiresNext a b fired m → (n : MachineControl) × StandsFor b n
@@ -35,9 +38,12 @@ pub record HasRun (a b : Controller) (f : Effects) : Type 0 where
   pub same : SameRules a b
   pub outs : b.outs ≡ a.outs
   pub event : (m : MachineControl) → StandsFor a m → Runs a b f m
+  pub keys : KeysStay a b
+  pub order : (m : MachineControl) → StandsFor a m → RunsFirst a b f m
+  pub idle : idle_in b ≡ idle_in a
 
-has_run : (a b : Controller) (f : Effects) → IsSound a → Follows a b → ((m : MachineControl) → StandsFor a m → Runs a b f m) → HasRun a b f
-has_run a b f x follows runs =
+has_run : (a b : Controller) (f : Effects) → IsSound a → Follows a b → ((m : MachineControl) → StandsFor a m → Runs a b f m) → ((m : MachineControl) → StandsFor a m → Runs a b f m → RunsFirst a b f m) → idle_in b ≡ idle_in a → HasRun a b f
+has_run a b f x follows runs first idle =
     let run : Runs a b f x.control = runs x.control x.stands in
     let next : (n : MachineControl) × StandsFor b n = stands_next a b f.fired (happens_on (shown_program a.program) (event_of f.key f.ran) None x.control) run.next in
     record {
@@ -45,6 +51,9 @@ has_run a b f x follows runs =
       same = follows_rules a b follows;
       outs = follows.outs;
       event = runs;
+      keys = follows.keys;
+      order = λ m y. first m y (runs m y);
+      idle = idle;
     }
 
 -- each clause of it
@@ -64,21 +73,44 @@ pub run_event : (a b : Controller) (result : Result Effects NoMemory) → IfOk r
 run_event a b (Ok f) x = x.event
 run_event a b (Err e) x = tt
 
--- the mailbox behind the mail that was taken
-module _ (a : Controller) (x : IsSound a) (accepted : AreAccepted (shown_program a.program)) (fits : Fits64 a.epochs) (left : Queue) (room : left.room ≡ a.mails.room) (first : Mail) (taken : a.mails.mails ≡ first ∷ left.mails) (id : Id) where
+pub run_keys : (a b : Controller) (result : Result Effects NoMemory) → IfOk result (HasRun a b) → OnOk result (KeysStay a b)
+run_keys a b (Ok f) x = x.keys
+run_keys a b (Err e) x = tt
+
+pub run_order : (a b : Controller) (result : Result Effects NoMemory) → IfOk result (HasRun a b) → IfOk result (λ f. (m : MachineControl) → StandsFor a m → RunsFirst a b f m)
+run_order a b (Ok f) x = x.order
+run_order a b (Err e) x = tt
+
+pub run_idle : (a b : Controller) (result : Result Effects NoMemory) → IfOk result (HasRun a b) → OnOk result (idle_in b ≡ idle_in a)
+run_idle a b (Ok f) x = x.idle
+run_idle a b (Err e) x = tt
+
+-- a mail was taken from the mailbox of a sound controller
+pub record IsTaken (a : Controller) (left : Queue) (first : Mail) : Type 0 where
+  pub sound : IsSound a
+  pub accepted : AreAccepted (shown_program a.program)
+  pub fits : Fits64 a.epochs
+  pub mails : a.mails.mails ≡ first ∷ left.mails
+  pub room : left.room ≡ a.mails.room
+
+module _ (a : Controller) (left : Queue) (first : Mail) (taken : IsTaken a left first) (id : Id) where
   kept : record { mails = left.mails; room = a.mails.room } ≡ left
-  kept = ap (λ (n : ℕ). record { mails = left.mails; room = n }) (sym room)
+  kept = ap (λ (n : ℕ). record { mails = left.mails; room = n }) (sym taken.room)
 
   pub start_may : IsStartOf id first → MayStart (record a { mails = left }) id
-  start_may starts = subst (λ (q : Queue). MayStart (record a { mails = q }) id) kept (may_start a x first left.mails taken accepted fits id starts)
+  start_may starts = subst (λ (q : Queue). MayStart (record a { mails = q }) id) kept (may_start a taken.sound first left.mails taken.mails taken.accepted taken.fits id starts)
 
   pub reply_may : (slot : ℕ) (answer : Answer) → first ≡ mail.Reply id slot answer → MayReply (record a { mails = left }) id slot answer
-  reply_may slot answer replies = subst (λ (q : Queue). MayReply (record a { mails = q }) id slot answer) kept (may_reply a x first left.mails taken accepted fits id slot answer replies)
+  reply_may slot answer replies = subst (λ (q : Queue). MayReply (record a { mails = q }) id slot answer) kept (may_reply a taken.sound first left.mails taken.mails taken.accepted taken.fits id slot answer replies)
 
   module _ (b : Controller) where
     pub start_has_run : (result : Result Effects NoMemory) → IsStartOf id first → IfOk result (λ f. Has a.contexts id (λ h. f.ran ≡ ran.Start h.number))
         → IfOk result (λ f. Has a.contexts id (Started (record a { mails = left }) b id f)) → IfOk result (HasRun a b)
-    start_has_run (Ok f) starts said started = has_run a b f x (start_follows a id first left.mails x taken starts b f as_left) (runs_start a b first left.mails id f x accepted fits taken starts said as_left)
+    start_has_run (Ok f) starts said started =
+        has_run a b f taken.sound (start_follows a id first left.mails taken.sound taken.mails starts b f as_left)
+        (runs_start a b first left.mails id f taken.sound taken.accepted taken.fits taken.mails starts said as_left)
+        (λ m y runs. first_start a b id first left.mails f taken.sound taken.mails m y runs starts said as_left)
+        (started_idle a b left id f started)
       where
         as_left : Has a.contexts id (Started (behind_mail a left.mails) b id f)
         as_left = subst (λ (q : Queue). Has a.contexts id (Started (record a { mails = q }) b id f)) (sym kept) started
@@ -87,7 +119,10 @@ module _ (a : Controller) (x : IsSound a) (accepted : AreAccepted (shown_program
     pub reply_has_run : (result : Result Effects NoMemory) (slot : ℕ) (answer : Answer) → first ≡ mail.Reply id slot answer → IfOk result (λ f. Has a.contexts id (λ h. f.ran ≡ ran.Reply h.number slot))
         → IfOk result (λ f. Has a.contexts id (Replied (record a { mails = left }) b id slot answer f)) → IfOk result (HasRun a b)
     reply_has_run (Ok f) slot answer replies said replied =
-        has_run a b f x (reply_follows a id slot answer left.mails x (taken ∙ ap (λ (y : Mail). y ∷ left.mails) replies) b f as_left) (runs_reply a b first left.mails id f x accepted fits taken slot answer replies said as_left)
+        has_run a b f taken.sound (reply_follows a id slot answer left.mails taken.sound (taken.mails ∙ ap (λ (y : Mail). y ∷ left.mails) replies) b f as_left)
+        (runs_reply a b first left.mails id f taken.sound taken.accepted taken.fits taken.mails slot answer replies said as_left)
+        (λ m y runs. first_reply a b id first left.mails f taken.sound taken.mails m y runs slot answer replies said as_left)
+        (replied_idle a b left id f slot answer replied)
       where
         as_left : Has a.contexts id (Replied (behind_mail a left.mails) b id slot answer f)
         as_left = subst (λ (q : Queue). Has a.contexts id (Replied (record a { mails = q }) b id slot answer f)) (sym kept) replied

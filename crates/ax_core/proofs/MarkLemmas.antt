@@ -1,16 +1,15 @@
 -- The marks in front of a key that fire nothing are taken off.
-use Rattle.std.proofs.Common.{◌≡◌, ℕ, ◌+◌, ◌<◌, ℤ, Bool, true, false, cond, not, ◌||◌, List, [], ◌∷◌, length, Some, None, refl, sym, ap, ◌∙◌, subst, arith}
+use Rattle.std.proofs.Common.{◌≡◌, ℕ, ◌+◌, ◌<◌, ℤ, Bool, true, false, cond, List, [], ◌∷◌, length, Some, None, refl, sym, ap, ◌∙◌, subst, arith}
 use Rattle.ax_machine.specs.Entries.{Key}
-use Rattle.ax_machine.proofs.FiringLemmas.{key_is}
-use Rattle.ax_time.proofs.KeptLemmas.{same_key as same_bytes}
 use Rattle.ax_account.specs.declared.part.Waiting.{Waiting}
 use Rattle.ax_account.specs.declared.part.Waiting.TheVariants as item
 use Rattle.ax_account.specs.declared.part.Next.{Next}
 use Rattle.ax_account.specs.Parts.{Part, next_of, taken_up, mark_ended, is_mark}
 use Rattle.ax_account.specs.Accounts.{Accounts, part_of, waiting_of, total, Changes}
-use Rattle.ax_account.specs.Queues.{same_key, has_key, without}
+use Rattle.ax_account.specs.Queues.{has_key, without}
+use Rattle.ax_account.proofs.QueueLemmas.{without_absent}
 use Rattle.ax_time.specs.Epochs.{Book}
-use Rattle.ax_core.specs.Callbacks.{fires, ending, behind_marks, ended, left_by_one, all_left, AllMayLeave, OthersIdle}
+use Rattle.ax_core.specs.Callbacks.{fires, ending, behind_marks, ended, left_by_one, all_left, AllMayLeave}
 
 pub changes_then : (a b d : Accounts) (key : Key) (x y : Part) → Changes a b key x → Changes b d key y → Changes a d key y
 changes_then a b d key x y h g = record {
@@ -70,29 +69,7 @@ pub record Going (key : Key) (times : List ℤ) (a b : Accounts) (d e : Book) (n
   pub same : behind_marks times left ≡ behind_marks times (waiting_of a key)
   pub gone : all_left (ended times left) e ≡ all_left (ended times (waiting_of a key)) d
   pub may : AllMayLeave (ended times left) e
-  pub idle : OthersIdle key a.idle b.idle
-
--- keys that tests take for the same are
-key_alike : (a b : Key) → same_key a b ≡ true → a ≡ b
-key_alike a b h = key_is a b (sym (same_bytes a b) ∙ h)
-
-no_key : (q k : Key) → (same_key q k ≡ true → ⊥) → same_key q k ≡ false
-no_key q k h = of (same_key q k) h
-  where
-    of : (b : Bool) → (b ≡ true → ⊥) → b ≡ false
-    of true f = absurd (f refl)
-    of false f = refl
-
-other_idle : (key q : Key) → (q ≡ key → ⊥) → (k : Key) (ks : List Key) → has_key (without key ks) q ≡ has_key ks q → has_key (cond (not (same_key key k)) (k ∷ without key ks) (without key ks)) q ≡ has_key (k ∷ ks) q
-other_idle key q differ k ks h = of (same_key key k) refl
-  where
-    of : (b : Bool) → same_key key k ≡ b → has_key (cond (not b) (k ∷ without key ks) (without key ks)) q ≡ has_key (k ∷ ks) q
-    of false e = ap (λ (r : Bool). same_key q k || r) h
-    of true e = h ∙ sym (ap (λ (b : Bool). b || has_key ks q) (no_key q k (λ same. differ (key_alike q k same ∙ sym (key_alike key k e)))))
-
-pub others_idle : (key q : Key) → (q ≡ key → ⊥) → (ks : List Key) → has_key (without key ks) q ≡ has_key ks q
-others_idle key q differ [] = refl
-others_idle key q differ (k ∷ ks) = other_idle key q differ k ks (others_idle key q differ ks)
+  pub idle : has_key a.idle key ≡ false → b.idle ≡ a.idle
 
 -- the mark in front is taken off, and its epoch has one less
 pub goes : (key : Key) (times : List ℤ) (a b b' : Accounts) (d e e' : Book) (next next' : Next) (epoch : ℕ) → Going key times a b d e next → ending times next ≡ Some epoch
@@ -108,5 +85,5 @@ goes key times a b b' d e e' next next' epoch g is next_is part idle epochs =
       same = x.same ∙ g.same;
       gone = ap (all_left (ended times (mark_ended g.left))) epochs ∙ sym (ap (λ (es : List ℕ). all_left es e) x.gone) ∙ g.gone;
       may = subst (AllMayLeave (ended times (mark_ended g.left))) (sym epochs) (subst (λ (es : List ℕ). AllMayLeave es e) x.gone g.may).1;
-      idle = λ q differ. ap (λ (ks : List Key). has_key ks q) idle ∙ others_idle key q differ b.idle ∙ g.idle q differ;
+      idle = λ busy. idle ∙ ap (without key) (g.idle busy) ∙ without_absent key a.idle busy;
     }

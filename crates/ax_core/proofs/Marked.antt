@@ -53,7 +53,7 @@ marked_at done w m = with_controls (λ k. cond (done k) (mark_on m.epoch w most_
 not_less : (k : Key) → key_cmp k k ≡ Less → ⊥
 not_less k h = let e : Equal ≡ Less = sym (tied_itself nat_list_cmp_total k) ∙ h in cc
 
-apart_above : (k : Key) (ks : List Key) → AllByRecursion (λ y. key_cmp k y ≡ Less) ks → list_any (bytes_eq k) ks ≡ true → ⊥
+pub apart_above : (k : Key) (ks : List Key) → AllByRecursion (λ y. key_cmp k y ≡ Less) ks → list_any (bytes_eq k) ks ≡ true → ⊥
 apart_above k [] a h = false_true h
 apart_above k (y ∷ ys) a h = ⊎_elim
     (λ (e : k ≡ y). not_less k (ap (key_cmp k) e ∙ a.0))

@@ -109,18 +109,24 @@ module _ (a : Controller) (m : MachineControl) (h : EpochsStand a.epochs a.barri
   open_is it = and_join (ap not h.barrier ∙ ap (λ (b : Bool). not (not b)) (no_barrier_so m.unsent it.0))
       (so_or a.settings.serial (is_empty a.epochs.closed) (λ serial. empty_markers a.epochs.closed m.unsent h.markers (it.1 serial)))
 
--- a key that is idle in the accounts is so in the control
-pub idle_stands : (p : Program) (ms : List Mail) (s : Slots Record) (key : Key) (part : Part) (due : List ℤ) (c : KeyControl) → PartStands p ms s key part due c → may_idle part ≡ true → is_idle_on c ≡ true
-idle_stands p ms s key part due c h idle = of part.owner part.waiting c.owner c.waiting h.owner h.items idle
+-- a key is idle in the control where it is so in the accounts
+pub idle_as : (p : Program) (ms : List Mail) (s : Slots Record) (key : Key) (part : Part) (due : List ℤ) (c : KeyControl) → PartStands p ms s key part due c → is_idle_on c ≡ may_idle part
+idle_as p ms s key part due c h = of part.owner part.waiting c.owner c.waiting h.owner h.items
   where
-    of : (o : Option Id) (is : List Item) (d : Option Context) (ws : List Waiting) → OwnerStands p ms s key o d → ItemsStand p ms s key is ws → (is_none o && is_mark (next_of is)) ≡ true → is_idle_with d ws ≡ true
-    of (Some i) is d ws x y e = false_true e
-    of None is (Some d) ws x y e = absurd x
-    of None [] None ws x y e = false_true e
-    of None (item.Row i ∷ is) None ws x y e = false_true e
-    of None (item.Mark u v fired ∷ is) None [] x y e = absurd y
-    of None (item.Mark u v fired ∷ is) None (Row n f facts ∷ ws) x y e = absurd y.0
-    of None (item.Mark u v fired ∷ is) None (Mark f w more ∷ ws) x y e = refl
+    of : (o : Option Id) (is : List Item) (d : Option Context) (ws : List Waiting) → OwnerStands p ms s key o d → ItemsStand p ms s key is ws → is_idle_with d ws ≡ (is_none o && is_mark (next_of is))
+    of None is (Some d) ws x y = absurd x
+    of (Some i) is None ws x y = absurd x
+    of (Some i) is (Some d) ws x y = refl
+    of None [] None [] x y = refl
+    of None [] None (w ∷ ws) x y = absurd y
+    of None (i ∷ is) None [] x y = absurd y
+    of None (item.Row i ∷ is) None (Row n f facts ∷ ws) x y = refl
+    of None (item.Row i ∷ is) None (Mark f w more ∷ ws) x y = absurd y.0
+    of None (item.Mark u v fired ∷ is) None (Row n f facts ∷ ws) x y = absurd y.0
+    of None (item.Mark u v fired ∷ is) None (Mark f w more ∷ ws) x y = refl
+
+pub idle_stands : (p : Program) (ms : List Mail) (s : Slots Record) (key : Key) (part : Part) (due : List ℤ) (c : KeyControl) → PartStands p ms s key part due c → may_idle part ≡ true → is_idle_on c ≡ true
+idle_stands p ms s key part due c h idle = idle_as p ms s key part due c h ∙ idle
 
 module _ (a : Controller) (m : MachineControl) (h : StandsFor a m) where
   none_idle : is_empty a.accounts.idle ≡ true → NoneIsIdleOn m

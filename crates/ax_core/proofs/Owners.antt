@@ -1,9 +1,11 @@
 -- The owner of a key that has begun, as a context of the machine.
-use Rattle.std.proofs.Common.{◌≡◌, ℕ, zero, suc, ◌≤◌, ◌<◌, List, [], ◌∷◌, length, get_or, refl, sym, ap, subst, Bool, true, false, Option, Some, None, Contains, eq-eqb, arith}
+use Rattle.std.proofs.Common.{◌≡◌, ℕ, zero, suc, ◌≤◌, ◌<◌, List, [], ◌∷◌, length, get_or, inl, inr, refl, sym, ap, subst, Bool, true, false, Option, Some, None, Contains, eq-eqb, arith}
 use Rattle.ax_lang.specs.declared.program.Program.{Program}
 use Rattle.ax_future.specs.declared.machine.Machine.{Machine as CodeMachine}
 use Rattle.ax_machine.specs.Entries.{Key}
 use Rattle.ax_buffer.specs.declared.items.Item.{Item}
+use Rattle.ax_buffer.specs.Buffer.{queue_of}
+use Rattle.ax_buffer.proofs.ListLemmas.{total-at}
 use Rattle.ax_context.specs.declared.id.Id.{Id}
 use Rattle.ax_context.specs.declared.contexts.Context.{Context as Held}
 use Rattle.ax_context.specs.Slots.{Slots, at}
@@ -13,7 +15,10 @@ use Rattle.ax_execution.specs.Contexts.{Running, Stage, Unbegun, Begun, Context}
 use Rattle.ax_core.specs.declared.record.Record.{Record}
 use Rattle.ax_core.specs.Contexts.{answer_if, answer_in, IsRunning, StageStands, IsContext, ContextStands}
 use Rattle.ax_core.specs.Keys.{OwnerStands}
-use Rattle.ax_core.specs.Flow.{one_if, names_request, queued_as, answered_as}
+use Rattle.ax_core.specs.declared.controller.Controller.{Controller}
+use Rattle.ax_core.specs.Flow.{one_if, names_request, queued_as, answered_as, in_queues}
+use Rattle.ax_core.proofs.Counting.{inside_or}
+use Rattle.ax_core.proofs.Replaced.{contains_none}
 
 pub none_some : {X : Type 0} {x : X} → None ≡ Some x → ⊥
 none_some e = cc
@@ -67,3 +72,12 @@ queued_at i (x ∷ xs) (suc k) lt e = omega (arith, queued_at i xs k (omega arit
 -- what stands in a queue is counted there
 pub queued_there : (i : Item) (is : List Item) → Contains is i → 1 ≤ queued_as i.id i.slot is
 queued_there i is c = queued_at i is c.0 c.1 c.2
+
+-- and in all queues
+pub in_queues_there : (a : Controller) (shard : ℕ) (i : Item) → Contains (queue_of a.buffer shard) i → 1 ≤ in_queues a i.id i.slot
+in_queues_there a shard i c =
+    let here : 1 ≤ queued_as i.id i.slot (queue_of a.buffer shard) = queued_there i (queue_of a.buffer shard) c in
+    elim (inside_or shard a.buffer.queues) [
+      | inl x ↦ (let all : queued_as i.id i.slot (queue_of a.buffer shard) ≤ in_queues a i.id i.slot = total-at (queued_as i.id i.slot) a.buffer.queues shard [] x in omega (arith, here, all))
+      | inr x ↦ absurd (contains_none i (subst (λ (is : List Item). Contains is i) x c))
+    ]

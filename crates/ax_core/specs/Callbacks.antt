@@ -136,10 +136,6 @@ abbrev pub AllMayLeave : List ℕ → Book → Type 0
 AllMayLeave [] book = Unit {0}
 AllMayLeave (e ∷ es) book = (IsOpen book e × (0 < count_of book e)) × AllMayLeave es (left_by_one book e)
 
--- among the idle keys each but this one is where it was
-abbrev pub OthersIdle : Key → List Key → List Key → Type 0
-OthersIdle key old new = (q : Key) → (q ≡ key → ⊥) → has_key new q ≡ has_key old q
-
 -- the epoch that a row is work of; a firing is none, since its mark is
 abbrev pub row_epochs : Handler → ℕ → List ℕ
 row_epochs handler.Row e = e ∷ []
@@ -155,10 +151,11 @@ with_start (next.Mark e w fired) ms = ms
 abbrev pub waits_next : Controller → Key → List Waiting
 waits_next a key = behind_marks (times_of a.timers key) (waiting_of a.accounts key)
 
--- a key was handed over, and a row that owns it now is to be started; nothing else changes
+-- a key was handed over, and a row that owns it now is to be started; nothing else changes, and the key isn't idle
 pub record HandsOver (old new : Controller) (key : Key) : Type 0 where
   pub part : Changes old.accounts new.accounts key (taken_up (waits_next old key))
-  pub idle : OthersIdle key old.accounts.idle new.accounts.idle
+  pub idle : new.accounts.idle ≡ old.accounts.idle
+  pub busy : has_key new.accounts.idle key ≡ false
   pub epochs : new.epochs ≡ all_left (ended (times_of old.timers key) (waiting_of old.accounts key)) old.epochs
   pub mails : new.mails.mails ≡ with_start (next_of (waits_next old key)) old.mails.mails
   pub room : new.mails.room ≡ old.mails.room

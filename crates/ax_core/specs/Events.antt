@@ -1,5 +1,5 @@
 -- The events that a call makes.
-use Rattle.std.specs.Prelude.{◌≡◌, ◌<◌, ℕ, ℤ, List, [], ◌∷◌, ◌++◌, map, true, Option, Some, None}
+use Rattle.std.specs.Prelude.{◌≡◌, ◌⊎◌, ◌<◌, ℕ, ℤ, List, [], ◌∷◌, ◌++◌, map, true, Option, Some, None}
 use Rattle.std.specs.List.{Contains}
 use Rattle.ax_text.specs.Controls.{request_at}
 use Rattle.ax_lang.specs.Shown.{shown_program}
@@ -46,6 +46,15 @@ pub record MayFireOn (a : Controller) (m : MachineControl) : Type 0 where
   pub key : Key
   pub idle : is_idle_on (m.controls key) ≡ true
   pub room : in_flight_on m < a.settings.in_flight
+
+-- the handler of a key's owner may begin, or be given the answer at some slot
+abbrev pub MayCall : Controller → MachineControl → Key → Type 0
+MayCall a m key = AllowedOn (rules_of a.settings) (Start key) m ⊎ ((slot : ℕ) × AllowedOn (rules_of a.settings) (Deliver key slot) m)
+
+-- that of some key
+pub record MayCallOn (a : Controller) (m : MachineControl) : Type 0 where
+  pub key : Key
+  pub call : MayCall a m key
 
 -- the marker of the oldest closed epoch, where that is finished
 abbrev pub IsFirstClosed : Marker → List Closed → Type 0

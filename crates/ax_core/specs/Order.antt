@@ -1,8 +1,12 @@
--- The order of the requests that wait in queues and of the callbacks that are to run, by the numbers of contexts.
-use Rattle.std.specs.Prelude.{◌≡◌, ◌≢◌, ℕ, Bool, true, false, List, [], ◌∷◌, ◌++◌, map, take, drop, Option, Some, None}
+-- The order of the requests that wait in queues and of the callbacks that are to run, by the numbers of contexts, and of the keys that are idle.
+use Rattle.std.specs.Prelude.{◌≡◌, ◌≢◌, ◌↔◌, ℕ, ℤ, Bool, true, false, List, [], ◌∷◌, ◌++◌, map, take, drop, Option, Some, None}
 use Rattle.std.specs.List.{Contains}
+use Rattle.std.specs.List.Sorted.{IsStrictlySortedBy}
+use Rattle.ax_keys.specs.Keys.{key_cmp}
 use Rattle.ax_text.specs.Controls.{Ask'}
+use Rattle.ax_text.specs.Times.{HasDue}
 use Rattle.ax_lang.specs.Shown.{shown_program}
+use Rattle.ax_machine.specs.Entries.{Key}
 use Rattle.ax_buffer.specs.declared.items.Item.{Item}
 use Rattle.ax_buffer.specs.declared.items.Reply.{Reply}
 use Rattle.ax_buffer.specs.Buffer.{queue_of}
@@ -11,8 +15,11 @@ use Rattle.ax_context.specs.declared.contexts.Context.{Context as Held}
 use Rattle.ax_context.specs.Slots.{at}
 use Rattle.ax_mailbox.specs.declared.mail.Mail.{Mail}
 use Rattle.ax_mailbox.specs.declared.mail.Mail.TheVariants as mail
+use Rattle.ax_time.specs.declared.epoch.Marker.{Marker}
+use Rattle.ax_time.specs.declared.epoch.Marker.TheVariants as marker
 use Rattle.ax_execution.specs.Contexts.{Stage, Unbegun, Begun, Context}
 use Rattle.ax_execution.specs.MachineControls.{MachineControl, happens_on, outcome_on}
+use Rattle.ax_execution.specs.OwedChanges.{is_free_on}
 use Rattle.ax_core.specs.declared.record.Record.{Record}
 use Rattle.ax_core.specs.declared.record.Name.{Name}
 use Rattle.ax_core.specs.declared.effects.Fired.{Fired}
@@ -110,3 +117,19 @@ pub record RunsFirst (old new : Controller) (f : Effects) (m : MachineControl) :
       ++ asks_of (number_of f.ran) (outcome_on (shown_program old.program) (event_of f.key f.ran) m).asks
   pub others : (other : ℕ) → other ≢ shard_of old.settings f.key → queue_in new other ≡ queue_in old other
   pub numbers : NumbersStay old new
+
+-- the keys that are idle, the one that has been idle longest first
+abbrev pub idle_in : Controller → List Key
+idle_in a = a.accounts.idle
+
+-- keys become idle, the last of all: those that are free and have a timer that is due at a watermark, in rising order of keys
+pub record BecomeIdle (old new : Controller) (w : ℤ) (m : MachineControl) : Type 0 where
+  pub keys : List Key
+  pub which : (k : Key) → Contains keys k ↔ ((is_free_on (m.controls k) ≡ true) × HasDue w (m.controls k).times)
+  pub rising : IsStrictlySortedBy key_cmp keys
+  pub last : idle_in new ≡ idle_in old ++ keys
+
+-- a watermark makes keys idle, and a barrier none
+abbrev pub IdleBehind : Controller → Controller → Marker → MachineControl → Type 0
+IdleBehind old new (marker.Mark time) m = BecomeIdle old new time m
+IdleBehind old new (marker.Barrier id) m = idle_in new ≡ idle_in old

@@ -8,7 +8,7 @@ ghost use Rattle.ax_execution.specs.MachineControls.{MachineControl};
 ghost use Rattle.ax_core.specs.Flow.{out_of};
 ghost use Rattle.ax_core.specs.Sound.{StandsFor, IsSound};
 ghost use Rattle.ax_core.specs.Events.{SameRules, AsksAll, AreOut, IsBatchOut, ServesAll, names_in, KeysStay, OfKeys};
-ghost use Rattle.ax_core.specs.Order.{Posts, replies_in, SendsFirst};
+ghost use Rattle.ax_core.specs.Order.{Posts, replies_in, SendsFirst, idle_in};
 ghost use Rattle.ax_core.specs.Batches.{IsPlaceOf, Forgets, OthersOut, mails_in};
 
 use crate::controller::Controller;
@@ -50,6 +50,7 @@ impl Controller {
         ensures keys_of { IfOk result (λ batch. OfKeys self.new batch) }
         ensures keys { OnOk result (KeysStay self.old self.new) }
         ensures order { IfOk result (λ batch. SendsFirst self.old self.new shard max batch) }
+        ensures idle { OnOk result (idle_in self.new ≡ idle_in self.old) }
     {
         let batch = self.buffer.take_batch(self.alloc, shard, max)?;
         put_names(&mut self.outs[shard as usize], &batch)?;
@@ -58,8 +59,8 @@ impl Controller {
 
     /// Takes the replies to a batch: each becomes a mail, in order.
     ///
-    /// Conditions: the replies name, in order, the ids and slots of one batch that was taken and not yet delivered, and each
-    /// answer has a form that its request has, as serving the batch gives them.
+    /// Condition: the replies name, in order, the ids and slots of one batch that was taken and not yet delivered. Each answer
+    /// should have a form that its request has, as serving the batch gives them.
     pub fn deliver(&mut self, r: Replies)
         requires sound { IsSound self.old }
         requires out { IsBatchOut self.old r }
@@ -69,6 +70,7 @@ impl Controller {
         ensures outs { OthersOut self.old self.new r }
         ensures keys { KeysStay self.old self.new }
         ensures order { Posts self.old self.new (replies_in self.old r) }
+        ensures idle { idle_in self.new ≡ idle_in self.old }
     {
         limit_law(&self.contexts);
         self.forget(&r);

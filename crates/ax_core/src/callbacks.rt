@@ -1,18 +1,20 @@
 //! Callbacks run.
-ghost use Rattle.std.specs.Prelude.{◌≡◌, ◌≤◌, ◌<◌, ◌+◌, ◌∷◌, [], true, length, IsSome, IfOk, OnOk};
+ghost use Rattle.std.specs.Prelude.{◌≡◌, ◌↔◌, ◌≤◌, ◌<◌, ◌+◌, ◌∷◌, [], true, false, length, IsTrue, IsSome, IfOk, OnOk};
 ghost use Rattle.ax_text.specs.Run.{time_after, times_after};
 ghost use Rattle.ax_time.specs.Timers.{PutsTimes, times_of};
 ghost use Rattle.ax_context.specs.Slots.{Has, IsLive, live_count};
 ghost use Rattle.ax_buffer.specs.Buffer.{total};
 ghost use Rattle.ax_account.specs.Parts.{next_of, taken_up};
-ghost use Rattle.ax_account.specs.Accounts.{waiting_of, owner_of, Changes};
+ghost use Rattle.ax_account.specs.Queues.{has_key};
+ghost use Rattle.ax_account.specs.Accounts.{waiting_of, owner_of, AreSound, Changes};
 ghost use Rattle.ax_execution.specs.Contexts as times;
 ghost use Rattle.ax_execution.specs.MachineControls.{MachineControl};
 ghost use Rattle.ax_core.specs.declared.effects.Ran.TheVariants as ran;
 ghost use Rattle.ax_core.specs.May.{has_mail};
 ghost use Rattle.ax_core.specs.Sound.{StandsFor, IsSound};
-ghost use Rattle.ax_core.specs.Events.{SameRules, Runs};
-ghost use Rattle.ax_core.specs.Callbacks.{Begins, WaitsAt, ResumedAt, HasBegun, HasResumed, item_for, items_for, IsHeld, IsQueued, ending, behind_marks, ended, all_left, AllMayLeave, OthersIdle, row_epochs, with_start, waits_next, HandsOver, GoesOn};
+ghost use Rattle.ax_core.specs.Events.{SameRules, KeysStay, Runs, MayCallOn};
+ghost use Rattle.ax_core.specs.Order.{RunsFirst, idle_in};
+ghost use Rattle.ax_core.specs.Callbacks.{Begins, WaitsAt, ResumedAt, HasBegun, HasResumed, item_for, items_for, IsHeld, IsQueued, ending, behind_marks, ended, all_left, AllMayLeave, row_epochs, with_start, waits_next, HandsOver, GoesOn};
 ghost use Rattle.ax_core.specs.Calls.{CallEnds, IsReady, MayStart, MayReply, Started, Replied};
 
 use crate::controller::Controller;
@@ -34,6 +36,14 @@ use std::alloc::Global;
 impl Controller {
     /// Whether a mail waits: a handler that is to begin, or an answer that is to be given.
     pub fn mail_waits(&self) -> bool
+        ensures value { result ≡ has_mail self.now }
+        ensures exact { (m : MachineControl) → IsSound self.now → StandsFor self.now m → IsTrue result ↔ MayCallOn self.now m }
+    {
+        self.has_mail()
+    }
+
+    // The same test.
+    fn has_mail(&self) -> bool
         ensures { result ≡ has_mail self.now }
     {
         self.mails.len() > 0
@@ -51,6 +61,9 @@ impl Controller {
         ensures same { OnOk result (SameRules self.old self.new) }
         ensures outs { OnOk result (self.new.outs ≡ self.old.outs) }
         ensures event { IfOk result (λ f. (m : MachineControl) → StandsFor self.old m → Runs self.old self.new f m) }
+        ensures keys { OnOk result (KeysStay self.old self.new) }
+        ensures order { IfOk result (λ f. (m : MachineControl) → StandsFor self.old m → RunsFirst self.old self.new f m) }
+        ensures idle { OnOk result (idle_in self.new ≡ idle_in self.old) }
     {
         program_is_accepted();
         sizes_law(&self.epochs);
@@ -321,15 +334,24 @@ fn ending_epoch(timers: &Timers, key: &Key, next: Next) -> Option<u64>
     }
 }
 
+// Each key that is idle has no owner, and a mark in front.
+fn idle_law(accounts: &Accounting)
+    ensures { AreSound accounts.now }
+{
+    let _ = accounts.first_idle();
+}
+
 // A key whose owner is given up: the marks in front that fire nothing end. Tells what comes next.
 fn hand_over(accounts: &mut Accounting, epochs: &mut Epochs, timers: &Timers, key: &Key) -> Next
     requires owner { IsSome (owner_of accounts.old key.now) }
     requires left { AllMayLeave (ended (times_of timers.now key.now) (waiting_of accounts.old key.now)) epochs.old }
     ensures next { result ≡ next_of (behind_marks (times_of timers.now key.now) (waiting_of accounts.old key.now)) }
     ensures part { Changes accounts.old accounts.new key.now (taken_up (behind_marks (times_of timers.now key.now) (waiting_of accounts.old key.now))) }
-    ensures idle { OthersIdle key.now accounts.old.idle accounts.new.idle }
+    ensures idle { accounts.new.idle ≡ accounts.old.idle }
+    ensures busy { has_key accounts.new.idle key.now ≡ false }
     ensures epochs { epochs.new ≡ all_left (ended (times_of timers.now key.now) (waiting_of accounts.old key.now)) epochs.old }
 {
+    idle_law(accounts);
     let mut next = accounts.release(key);
     while let Some(epoch) = ending_epoch(timers, key, next) {
         next = accounts.end_mark(key);

@@ -1,5 +1,5 @@
 //! The controller, and what can be asked of it.
-ghost use Rattle.std.specs.Prelude.{◌≡◌, ◌<◌, IfOk};
+ghost use Rattle.std.specs.Prelude.{◌≡◌, ◌<◌, [], IfOk};
 ghost use Rattle.ax_text.specs.Programs.{program_width};
 ghost use Rattle.ax_lang.specs.Shown.{shown_program};
 ghost use Rattle.ax_time.specs.Timers.{times_of};
@@ -9,6 +9,7 @@ ghost use Rattle.ax_execution.specs.MachineControls.{MachineControl, at_origin, 
 ghost use Rattle.ax_core.specs.Flow.{shard_of};
 ghost use Rattle.ax_core.specs.Rooms.{AreTaken, IsNew};
 ghost use Rattle.ax_core.specs.Sound.{InRange, StandsFor, IsSound};
+ghost use Rattle.ax_core.specs.Order.{idle_in};
 
 use crate::record::{Name, Record};
 use crate::rooms::{Rooms, take_rooms};
@@ -54,6 +55,7 @@ impl Controller {
         ensures program { IfOk result (λ a. a.program ≡ program) }
         ensures settings { IfOk result (λ a. a.settings ≡ settings) }
         ensures stands { IfOk result (λ a. StandsFor a (at_origin (first (shown_program program)))) }
+        ensures idle { IfOk result (λ a. idle_in a ≡ []) }
     {
         let rooms = take_rooms(alloc, settings, program.width())?;
         Ok(begin(alloc, program, settings, rooms))

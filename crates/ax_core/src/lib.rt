@@ -1,8 +1,8 @@
 //! The controller of asynchronous execution, after Flink's `AsyncExecutionController` (FLIP-425).
 //!
-//! A `Controller` takes rows, closes epochs and sends their markers, lets idle keys fire, hands out the requests of the states
-//! in batches, and takes their replies. Each of its calls makes events of the machine of `ax_execution`, whatever the states
-//! hold. What runs the callbacks of handlers isn't there yet: of it `callbacks` has the parts, and `effects` what it will tell.
+//! A `Controller` takes rows, closes epochs and sends their markers, lets idle keys fire, runs the callbacks of handlers, hands
+//! out the requests of the states in batches, and takes their replies. Each of its calls makes events of the machine of
+//! `ax_execution`, whatever the states hold.
 //!
 //! - `settings`: `Settings`, how a controller works.
 //! - `effects`: `Fired`, `Ran` and `Effects`, what a callback did.

@@ -9,6 +9,6 @@ pub struct Settings {
     pub shards: u16,
     /// How many groups the keys fall into, from 1 to 32,768.
     pub groups: u16,
-    /// How many contexts may be in flight, from 1 to 65,536.
+    /// How many contexts may be in flight, at most 65,536. At 0 nothing is admitted.
     pub in_flight: u32,
 }

@@ -1,5 +1,7 @@
 //! A controller in the hand of a test.
-ghost use Rattle.std.specs.Prelude.{◌≡◌, IfOk, OnOk, true};
+ghost use Rattle.std.specs.Prelude.{◌≡◌, ◌<◌, [], length, replicate, IfOk, OnOk};
+ghost use Rattle.std.specs.List.{slice_index_or};
+ghost use Rattle.ax_buffer.specs.Buffer.{queue_of};
 ghost use Rattle.ax_core.specs.Sound.{InRange};
 ghost use Rattle.ax_core_tests.specs.Hands.{IsReady};
 
@@ -11,6 +13,19 @@ use ax_keys::Key;
 use ax_lang::Program;
 use std::alloc::Global;
 use std::mem;
+
+// Nothing is out of any shard.
+fn no_replies(alloc: Global, shards: u16) -> Result<Vec<Replies>, NoMemory>
+    ensures { IfOk result (λ served. served.items ≡ replicate shards []) }
+{
+    let mut served = Vec::new(alloc);
+    for _shard in 0..shards {
+        let Ok(()) = served.push(Replies::new(alloc)) else {
+            return Err(NoMemory);
+        };
+    }
+    Ok(served)
+}
 
 /// A controller, the states of its keys, and for each shard the replies to the batch that is out.
 #[derive(Drop)]
@@ -29,12 +44,7 @@ impl Hand {
     {
         let states = no_states(alloc, &program)?;
         let core = Controller::new(alloc, program, settings)?;
-        let mut served = Vec::new(alloc);
-        for _shard in 0..settings.shards {
-            let Ok(()) = served.push(Replies::new(alloc)) else {
-                return Err(NoMemory);
-            };
-        }
+        let served = no_replies(alloc, settings.shards)?;
         Ok(Hand {
             alloc,
             core,
@@ -108,6 +118,7 @@ impl Hand {
     }
 
     /// Takes a batch of a shard that is home, and serves it; how many requests it has.
+    #[tactic(auto, using(crate::proofs::Hands::home_at))]
     pub fn batch(&mut self, shard: u16, max: u32) -> Result<usize, NoMemory>
         requires { IsReady self.old }
         ensures { OnOk result (IsReady self.new) }
@@ -116,13 +127,27 @@ impl Hand {
         if at >= self.served.len() || max == 0 {
             return Ok(0);
         }
-        if !self.served[at].is_empty() || self.core.active_len(shard) == 0 {
-            return Ok(0);
+        let home = self.served[at].is_empty();
+        if home && self.core.active_len(shard) > 0 {
+            self.take(shard, max)
+        } else {
+            Ok(0)
         }
+    }
+
+    // The same of a shard that is home and has requests.
+    fn take(&mut self, shard: u16, max: u32) -> Result<usize, NoMemory>
+        requires ready { IsReady self.old }
+        requires there { shard < length self.old.served.items }
+        requires home { slice_index_or self.old.served.items shard [] ≡ [] }
+        requires some { 0 < length (queue_of self.old.core.buffer shard) }
+        requires most { 0 < max }
+        ensures { OnOk result (IsReady self.new) }
+    {
         let batch = self.core.batch_for(shard, max)?;
         let replies = serve(self.alloc, self.core.program(), &mut self.states, batch)?;
         let count = replies.len();
-        self.served[at] = replies;
+        self.served[shard as usize] = replies;
         Ok(count)
     }
 

@@ -1,5 +1,5 @@
 //! The states of a few keys, which serve batches.
-ghost use Rattle.std.specs.Prelude.{◌≡◌};
+ghost use Rattle.std.specs.Prelude.{◌≡◌, IfOk};
 ghost use Rattle.ax_state.specs.KeyCells.{cell_kinds};
 ghost use Rattle.ax_lang.specs.Shown.{shown_kinds};
 ghost use Rattle.ax_core.specs.Events.{names_in, names_of};
@@ -31,7 +31,11 @@ pub fn no_states(alloc: Global, program: &Program) -> Result<States, NoMemory>
 }
 
 // A request that fits, and nothing at another.
-fn serve_request(program: &Program, cells: &mut KeyCells, request: &Request) -> Result<Answer, NoMemory>
+fn serve_request(
+    program: &Program,
+    cells: &mut KeyCells,
+    request: &Request,
+) -> Result<Answer, NoMemory>
     requires { cell_kinds cells.old ≡ shown_kinds program.now }
     ensures { cell_kinds cells.new ≡ shown_kinds program.now }
 {

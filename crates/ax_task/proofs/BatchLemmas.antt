@@ -1,5 +1,5 @@
 -- A shard's content, request by request.
-use Rattle.std.proofs.Common.{◌≡◌, ◌≢◌, ◌+◌, ◌<◌, ◌≤◌, ℕ, Bool, true, false, cond, List, [], ◌∷◌, ◌++◌, length, take, get_or, Option, Some, None, Result, Ok, Err, OnOk, OnErr, refl, sym, ap, ap₂, ◌∙◌, subst, arith}
+use Rattle.std.proofs.Common.{◌≡◌, ◌+◌, ◌<◌, ◌≤◌, ℕ, Bool, true, false, cond, List, [], ◌∷◌, ◌++◌, length, take, get_or, Option, Some, None, Result, Ok, Err, OnOk, OnErr, refl, sym, ap, ap₂, ◌∙◌, subst}
 use Rattle.std.proofs.lemmas.List.{take_more, take_all}
 use Rattle.std.proofs.Math.Path.{fun_ext}
 use Rattle.std.specs.Cmp.Lexicographic.{texts_ties}
@@ -10,7 +10,7 @@ use Rattle.std.specs.Result.{IsErr}
 use Rattle.ax_base.specs.declared.outside.NoMemory.{NoMemory}
 use Rattle.ax_keys.specs.Keys.{key_cmp}
 use Rattle.ax_text.specs.declared.vocabulary.Kind.{Kind}
-use Rattle.ax_text.specs.Cells.{Cell, Cells, cells_after}
+use Rattle.ax_text.specs.Cells.{Cell, cells_after}
 use Rattle.ax_text.specs.Programs.{untouched}
 use Rattle.ax_text.specs.Suits.{fits_in}
 use Rattle.ax_state.specs.KeyCells.{shown_cells, cell_kinds}
@@ -18,7 +18,7 @@ use Rattle.ax_buffer.specs.declared.items.Item.{Item}
 use Rattle.ax_buffer.specs.declared.items.Reply.{Reply}
 use Rattle.ax_machine.specs.Entries.{Key}
 use Rattle.ax_machine.proofs.FiringLemmas.{key_is}
-use Rattle.ax_task.specs.Serving.{Content, reply_to, content_with, replies_to, content_after, IsPartServed, IsServed, Serves, AllFit, Holding, cells_or, content_in, content_of, FitsIfHeld, HoldsKinds}
+use Rattle.ax_task.specs.Serving.{Content, reply_to, content_with, replies_to, content_after, IsPartServed, IsServed, Serves, AllFit, cells_or, content_in, FitsIfHeld, HoldsKinds}
 
 abbrev pub Entries : Type 0
 Entries = List (Key × List Cell)

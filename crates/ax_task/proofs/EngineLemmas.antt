@@ -1,7 +1,6 @@
 -- What each thing that an engine does makes of a run.
-use Rattle.std.proofs.Common.{◌≡◌, ◌<◌, ◌⊎◌, inl, inr, ℕ, ℤ, zero, suc, ◌+◌, int_lt, Bool, true, false, List, [], ◌∷◌, ◌++◌, length, get_or, Option, Some, None, Result, Ok, Err, OnOk, IfOk, refl, sym, ap, ap₂, ◌∙◌, subst, arith}
+use Rattle.std.proofs.Common.{◌≡◌, ◌<◌, inl, inr, ℕ, ℤ, zero, suc, int_lt, Bool, true, false, List, [], ◌∷◌, ◌++◌, length, get_or, Option, None, Result, Ok, Err, OnOk, IfOk, refl, sym, ap, ◌∙◌, subst, arith}
 use Rattle.std.proofs.lemmas.List.{append-nil}
-use Rattle.std.specs.List.{Contains}
 use Rattle.std.specs.Io.KnownBytes.{Appends}
 use Rattle.ax_base.specs.Outside.{AppendsSome}
 use Rattle.ax_base.proofs.OutsideLemmas.{Appends-none}
@@ -9,13 +8,12 @@ use Rattle.ax_machine.specs.Entries.{Key, Watermark, Block, Entry, says, text_of
 use Rattle.ax_machine.specs.Entries as entry
 use Rattle.ax_machine.specs.Events.{Event}
 use Rattle.ax_machine.specs.Events as event
-use Rattle.ax_machine.specs.Blocks.{Part, part_lines, lines_among, block_text}
+use Rattle.ax_machine.specs.Blocks.{part_lines, lines_among, block_text}
 use Rattle.ax_machine.specs.Lawful.{LawfulFor, LawfulSoFarFor}
 use Rattle.ax_text.specs.Programs.{Program as AnyProgram, untouched}
 use Rattle.ax_lang.specs.declared.program.Program.{Program}
 use Rattle.ax_lang.specs.Shown.{shown_program, shown_kinds}
 use Rattle.ax_buffer.specs.Buffer.{total}
-use Rattle.ax_context.specs.Slots.{at, live_count}
 use Rattle.ax_time.specs.Timers.{times_of}
 use Rattle.ax_time.specs.declared.epoch.Marker.{Marker}
 use Rattle.ax_time.specs.declared.epoch.Marker.TheVariants as marker
@@ -24,7 +22,6 @@ use Rattle.ax_execution.specs.Machine.{Admit, Close, Closed, Send, marker_of}
 use Rattle.ax_execution.specs.MachineControls.{MachineControl, control_of_machine, at_origin, in_flight_on, happens_on, send_first_on}
 use Rattle.ax_execution.specs.KeyControls.{KeyControl}
 use Rattle.ax_core.specs.declared.settings.Settings.{Settings}
-use Rattle.ax_core.specs.declared.record.Name.{Name}
 use Rattle.ax_core.specs.declared.effects.Fired.{Fired}
 use Rattle.ax_core.specs.declared.effects.Effects.{Effects}
 use Rattle.ax_core.specs.declared.controller.Controller.{Controller}
@@ -33,10 +30,9 @@ use Rattle.ax_core.specs.Flow.{out_of}
 use Rattle.ax_core.specs.Sound.{StandsFor, IsSound}
 use Rattle.ax_execution.specs.ControlsAllowed.{FirstIsFinishedOn}
 use Rattle.ax_core.specs.Events.{SameRules, KeysStay, Makes, MayFireOn, Fires, Runs, Sends, StaysUnsent}
-use Rattle.ax_task.specs.Serving.{Content}
 use Rattle.ax_task.specs.Shards.{shard_count, held, out}
 use Rattle.ax_task.specs.Refined.{content_over, Refines}
-use Rattle.ax_task.specs.Engines.{Stands, IsReady, MovesOn, Takes, Wrote, Writes, WroteSome, WritesSome, IsQuiet, IsBlockOf, IsMarkerText, WroteMarker, WrotePart, WritesPart}
+use Rattle.ax_task.specs.Engines.{Stands, IsReady, MovesOn, Takes, Wrote, Writes, WroteSome, WritesSome, IsQuiet, IsBlockOf, IsMarkerText, WroteMarker, WritesPart}
 use Rattle.ax_task.specs.declared.engine.Engine.{Engine}
 use Rattle.ax_task.proofs.Refining.{Leaves}
 use Rattle.ax_task.proofs.Things.{marker_event, fires_on, admits_on, closes_on, sends_on, runs_on, skips_on}

@@ -5,9 +5,9 @@ use Rattle.ax_base.specs.Reader.{Reader}
 use Rattle.ax_machine.specs.Events.{Event}
 use Rattle.ax_input.specs.Shown.{shown_event}
 use Rattle.ax_input.specs.declared.event.Event.{Event as CodeEvent}
-use Rattle.ax_task.specs.Parse.{Stream, Clean, Fault, ends}
+use Rattle.ax_task.specs.Parse.{Stream, Clean, ends}
 use Rattle.ax_task.specs.Reads.{NextOf}
-use Rattle.ax_task.specs.Passes.{events_at, SomePassed, NextPasses, Taken}
+use Rattle.ax_task.specs.Passes.{events_at, SomePassed, NextPasses}
 use Rattle.ax_task.specs.Known.{Knows, IsInputEnd}
 use Rattle.ax_task.specs.Tasks.{held_events, From, FoundCounts, IsFound, MayRead, HasRead, ReadsOn, ReadsShort}
 use Rattle.ax_task.specs.declared.end.End.{End}

@@ -1,7 +1,7 @@
 -- Shards that are out and home: a batch is sent, and comes back.
 use Rattle.std.proofs.Common.{◌≡◌, ◌≢◌, ◌+◌, ◌<◌, ◌≤◌, ℕ, zero, suc, ℤ, Bool, true, false, cond, nat_eq, List, [], ◌∷◌, ◌++◌, length, get_or, set, replicate, Result, ◌⊎◌, inl, inr, refl, sym, ap, ap₂, ◌∙◌, subst, arith}
 use Rattle.std.proofs.lemmas.Bool.{cases_eq, cases_lt, eqb-true, eq-eqb}
-use Rattle.std.proofs.lemmas.List.{get_or-set_same, get_or-set_other, get_or-replicate, get_or_past, get_or_default, length-set, length-replicate, length-append}
+use Rattle.std.proofs.lemmas.List.{get_or-set_same, get_or-set_other, get_or_past, get_or_default, length-set, length-replicate, length-append}
 use Rattle.std.proofs.lemmas.List.Sums.{sum_by-cons, sum_by-le, sum_by-set, sum_by_push, sum_by-remove, get_or-le-sum_by}
 use Rattle.std.proofs.lemmas.List.Edits.{length-remove}
 use Rattle.std.specs.List.{sum_by, remove}
@@ -10,8 +10,8 @@ use Rattle.ax_text.specs.declared.vocabulary.Kind.{Kind}
 use Rattle.ax_text.specs.Functions.{upd}
 use Rattle.ax_buffer.specs.declared.items.Item.{Item}
 use Rattle.ax_buffer.specs.declared.items.Reply.{Reply}
-use Rattle.ax_task.specs.Serving.{Content, Serves, AllFit, Holding, content_of}
-use Rattle.ax_task.specs.Shards.{Serving, nothing_held, holding_of, held, out, Stays, Came, one_if_out, times_sent, AreSound}
+use Rattle.ax_task.specs.Serving.{Serves, AllFit, Holding, content_of}
+use Rattle.ax_task.specs.Shards.{Serving, nothing_held, holding_of, held, out, Came, one_if_out, times_sent, AreSound}
 
 -- ---- numbers and lists
 
@@ -129,9 +129,11 @@ module _ (v : Serving) (sound : AreSound v) where
     where
       at_s : (t : ℕ) → t ≡ s → get_or (set v.batches s batch) t [] ≡ batch
       at_s t e = ap (λ (u : ℕ). get_or (set v.batches s batch) u []) e ∙ get_or-set_same v.batches s batch [] there
+
       fit : (t : ℕ) → (t ≡ s) ⊎ (t ≢ s) → AllFit v.kinds (get_or (set v.batches s batch) t [])
       fit t (inl e) = subst (AllFit v.kinds) (sym (at_s t e)) fits
       fit t (inr n) = subst (AllFit v.kinds) (sym (get_or-set_other v.batches s t batch [] n)) (sound.fit t)
+
       once : (t : ℕ) → (t ≡ s) ⊎ (t ≢ s) → times_sent t v.sent + one_at t s ≡ one_if_out (get_or (set v.batches s batch) t [])
       once t (inl e) =
           let was : one_if_out (out v t) ≡ 0 = ap one_if_out (ap (out v) e ∙ home) in
@@ -176,14 +178,18 @@ module _ (v : Serving) (sound : AreSound v) where
         where
           holds : s < length v.shards
           holds = omega (arith, there, sound.shards)
+
           kinds : (t : ℕ) → (t ≡ s) ⊎ (t ≢ s) → (get_or (set v.shards s h) t (nothing_held v.kinds)).kinds ≡ v.kinds
           kinds t (inl e) = ap (λ (u : ℕ). (get_or (set v.shards s h) u (nothing_held v.kinds)).kinds) e ∙ ap (λ (x : Holding). x.kinds) (get_or-set_same v.shards s h (nothing_held v.kinds) holds) ∙ same
           kinds t (inr n) = ap (λ (x : Holding). x.kinds) (get_or-set_other v.shards s t h (nothing_held v.kinds) n) ∙ sound.kinds t
+
           at_s : (t : ℕ) → t ≡ s → get_or (set v.batches s []) t [] ≡ []
           at_s t e = ap (λ (u : ℕ). get_or (set v.batches s []) u []) e ∙ get_or-set_same v.batches s [] [] there
+
           fit : (t : ℕ) → (t ≡ s) ⊎ (t ≢ s) → AllFit v.kinds (get_or (set v.batches s []) t [])
           fit t (inl e) = subst (AllFit v.kinds) (sym (at_s t e)) (λ k d g. absurd (omega (arith, g)))
           fit t (inr n) = subst (AllFit v.kinds) (sym (get_or-set_other v.batches s t [] [] n)) (sound.fit t)
+
           once : (t : ℕ) → (t ≡ s) ⊎ (t ≢ s) → times_sent t (remove v.sent place) ≡ one_if_out (get_or (set v.batches s []) t [])
           once t (inl e) =
               let was : one_if_out (out v t) ≡ 1 = ap (λ (u : ℕ). one_if_out (out v u)) e ∙ was_out in

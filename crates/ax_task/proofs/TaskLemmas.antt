@@ -1,15 +1,13 @@
 -- A task goes on step by step, and ends.
-use Rattle.std.proofs.Common.{◌≡◌, ℕ, ℤ, List, [], ◌∷◌, ◌++◌, ◌⊎◌, inl, inr, Bool, true, false, Option, Some, None, Result, Ok, Err, refl, sym, ap, ◌∙◌, subst}
+use Rattle.std.proofs.Common.{◌≡◌, ℕ, ℤ, List, [], ◌∷◌, ◌++◌, inl, inr, false, Option, Some, None, Err, refl, sym, ap, ◌∙◌, subst}
 use Rattle.std.proofs.lemmas.List.{append-nil}
-use Rattle.std.specs.Io.KnownBytes.{Appends}
-use Rattle.ax_base.specs.Outside.{RoseByOne, Counts, Told, AppendsSome, OwnCounts}
+use Rattle.ax_base.specs.Outside.{Counts, Told, OwnCounts}
 use Rattle.ax_base.specs.Reader.{Reader}
 use Rattle.ax_base.specs.declared.outside.SinkFault.{SinkFault}
 use Rattle.ax_base.specs.declared.outside.SinkFault.TheVariants as sink
 use Rattle.ax_base.proofs.OutsideLemmas.{Appends-none, Appends-more, Told-map}
-use Rattle.ax_machine.specs.Entries.{Entry, text_of}
+use Rattle.ax_machine.specs.Entries.{text_of}
 use Rattle.ax_machine.specs.Events.{Event}
-use Rattle.ax_machine.specs.Lawful.{LawfulFor, LawfulSoFarFor}
 use Rattle.ax_machine.proofs.StepLemmas.{lawful_for_more, text_of-append}
 use Rattle.ax_input.specs.Shown.{shown_event}
 use Rattle.ax_input.specs.declared.event.Event.{Event as CodeEvent}
@@ -25,13 +23,13 @@ use Rattle.ax_task.specs.Passes.{events_at, Taken, Took}
 use Rattle.ax_task.specs.Passes as passes
 use Rattle.ax_task.specs.Known.{Knows, IsInputEnd}
 use Rattle.ax_task.specs.Engines.{Stands, MovesOn, Takes, Wrote, Writes, WroteSome, WritesSome, IsQuiet}
-use Rattle.ax_task.specs.Tasks.{held_events, Outer, From, FoundCounts, IsFound, MayRead, HasRead, ReadsOn, ReadsShort, IsUnderway, HasEnded}
+use Rattle.ax_task.specs.Tasks.{held_events, Outer, From, FoundCounts, IsFound, MayRead, ReadsOn, ReadsShort, IsUnderway, HasEnded}
 use Rattle.ax_task.specs.declared.end.End.{End}
 use Rattle.ax_task.specs.declared.end.End.TheVariants as end
 use Rattle.ax_task.specs.declared.engine.Engine.{Engine}
 use Rattle.ax_task.specs.declared.reading.Reading.{Reading}
-use Rattle.ax_task.proofs.Written.{AppendsSome-none, AppendsSome-behind}
-use Rattle.ax_task.proofs.EngineLemmas.{so_far_here, some_none, rest_is_whole}
+use Rattle.ax_task.proofs.Written.{AppendsSome-behind}
+use Rattle.ax_task.proofs.EngineLemmas.{some_none, rest_is_whole}
 use Rattle.ax_task.proofs.Progress.{stops_once}
 use Rattle.ax_task.proofs.Knowing.{known_first, known_taken, ends_found, stops_found}
 

@@ -61,12 +61,7 @@ impl Engine {
         requires batch { 0 < config.now.batch }
         ensures { IfOk result (λ e. Stands config.now.settings program e [] []) }
     {
-        let shards = Shards::new(
-            alloc,
-            config.settings.shards,
-            program.decls(),
-            order,
-        )?;
+        let shards = Shards::new(alloc, config.settings.shards, program.decls(), order)?;
         let core = Controller::new(alloc, program, config.settings)?;
         Ok(Engine {
             alloc,
@@ -103,12 +98,7 @@ impl Engine {
         let Ok(effects) = self.core.run_mail() else {
             return Err(SinkFault::NoMemory);
         };
-        write_lines(
-            &mut self.text,
-            &effects.key,
-            effects.outs.as_slice(),
-            out,
-        )
+        write_lines(&mut self.text, &effects.key, effects.outs.as_slice(), out)
     }
 
     // Writes a marker that was taken as the next. After an error the sink took a prefix of it.
@@ -187,10 +177,7 @@ impl Engine {
 
     /// Lets a key fire, runs a mail or sends a marker, and writes what there is to write. Whether there was something to do.
     /// After an error the sink took a prefix of what may be written.
-    pub fn work<K: Sink, B: Begun>(
-        &mut self,
-        out: &mut Gather<'_, K, B>,
-    ) -> Result<bool, SinkFault>
+    pub fn work<K: Sink, B: Begun>(&mut self, out: &mut Gather<'_, K, B>) -> Result<bool, SinkFault>
         requires ready { IsReady self.old }
         ensures writes { OnOk result (Writes self.old self.new (append_known (K.holds out.old.inner.now) out.old.room.now) (append_known (K.holds out.new.inner.now) out.new.room.now)) }
         ensures quiet { IfOk result (λ done. done ≡ false → IsQuiet self.new.core) }

@@ -1,7 +1,13 @@
-//! The task: the program section, then the events, which the plain thread takes one after another.
+//! The task: the program section, then the events, which run asynchronously over a controller and shards in one thread.
 //!
-//! `End` and `run_task_alone` are for the layer above, and `laws` for a reader of the clauses. The readers of the section and of the stream of events are this crate's
-//! own parts.
+//! - `config`: `Config`, how a run works.
+//! - `end`: `End`, how it ends.
+//! - `task`: `run_task_alone`, a whole run.
+//! - `laws`: for a reader of the clauses.
+//!
+//! Private modules: `section` and `stream` read the section and the events, `reading` holds the event that isn't taken yet;
+//! `engine` is the controller with its shards, `exchange` sends them requests and takes replies, `block` makes the block of a
+//! barrier; `shard`, `shards` and `cells` hold and serve the states of keys; `line` writes.
 #![tactic(auto)]
 
 mod block;

@@ -1,4 +1,4 @@
-//! A whole run: the program section, then the events in a plain loop.
+//! A whole run: the program section, then the events, step by step.
 ghost use Rattle.std.specs.Prelude.{◌≡◌, ◌<◌, ◌+◌, true, false, IfOk, IfSome, Option, List, ℕ};
 ghost use Rattle.std.specs.Io.KnownBytes.{append_known};
 ghost use Rattle.ax_base.specs.Outside.{Counts, Told};
@@ -310,11 +310,12 @@ fn run_events<S: Source, K: Sink>(
     run_gathered::<S, K, Brand>(alloc, config, order, program, lines, input, &mut room, out)
 }
 
-/// Runs an input in a plain loop: reads the program section, then takes each event.
+/// Runs an input: reads the program section, then the events, which run asynchronously in one thread. `order` says which of the
+/// batches that are out is served next, as `Shards::poll` tells.
 ///
-/// Everything that is read comes from `input`, and everything that is written goes to `out`. Keys have so many groups.
-/// Condition: 1 to 32,768 of them. What is to be written is gathered in a room of 65,536 bytes, and written when that is full,
-/// behind each watermark and barrier, and at the end.
+/// Everything that is read comes from `input`, and everything that is written goes to `out`. Conditions: the settings are in
+/// their ranges, and contexts and batches have some room. What is to be written is gathered in a room of 65,536 bytes, and
+/// written when that is full, behind each watermark and barrier, and at the end.
 ///
 /// `End::Program` names the first fault of the section, and then nothing was written. It comes where no read failed before the
 /// section's end, and is then the only end but want of memory.

@@ -1,4 +1,5 @@
 //! One run over memory, and what it must leave.
+use crate::by_key::by_key;
 use crate::inputs::with_events;
 use ax_base::{Bytes, NoMemory, SureSink, SureSource};
 use ax_cli::{Status, run_alone};
@@ -57,34 +58,61 @@ fn end_of(alloc: Global, bytes: &[u8]) -> Result<String, AllocError> {
     bytes[from..].escape_ascii().to_string(alloc)
 }
 
-/// Runs an input of these pieces, and compares all that the run leaves.
+/// Words under which each input is run. Under none of them a key's lines or the place of a marker is another.
+pub const WORDS: [[&str; 4]; 4] = [
+    ["--in-flight", "1", "--io-threads", "0"],
+    ["--batch", "1", "--io-threads", "0"],
+    ["--shards", "1", "--io-threads", "0"],
+    ["--in-flight", "3", "--batch", "2"],
+];
+
+// Runs these bytes under these words, and compares all that the run leaves.
+fn expect_under(
+    rt: &(impl Abort + AllocGlobal),
+    words: &[&str],
+    bytes: &[u8],
+    out: &str,
+    status: Status,
+) -> Result<(), Fail> {
+    let alloc = rt.alloc();
+    let mut source = SureSource::new(Bytes::from_slice(alloc, bytes)?);
+    let mut sink = SureSink::new(alloc);
+    let mut err = SureSink::new(alloc);
+    let found = run_alone(alloc, words, &mut source, &mut sink, &mut err);
+    let shown = end_of(alloc, bytes)?;
+    assert_eq!(rt; found, status, "at .. {shown} under {words:?}");
+    let written = by_key(alloc, sink.bytes())?;
+    assert_eq!(rt; written.as_str(), out, "at .. {shown} under {words:?}");
+    let line = line_of(alloc, status)?;
+    assert_eq!(rt; err.bytes(), line.as_bytes());
+    Ok(())
+}
+
+/// Runs an input of these pieces with no words, and compares all that the run leaves. Keys may overtake each other between
+/// two markers.
 pub fn expect(
     rt: &(impl Abort + AllocGlobal),
     pieces: &[&[u8]],
     out: &str,
     status: Status,
 ) -> Result<(), Fail> {
-    expect_bytes(rt, pieces, out.as_bytes(), status)
+    let bytes = joined(rt.alloc(), pieces)?;
+    let sorted = by_key(rt.alloc(), out.as_bytes())?;
+    expect_under(rt, &[], bytes.as_slice(), sorted.as_str(), status)
 }
 
-/// The same of the bytes that must be written.
-pub fn expect_bytes(
+// The same, and under each of `WORDS` too.
+fn expect_everywhere(
     rt: &(impl Abort + AllocGlobal),
-    pieces: &[&[u8]],
+    bytes: &[u8],
     out: &[u8],
     status: Status,
 ) -> Result<(), Fail> {
-    let alloc = rt.alloc();
-    let bytes = joined(alloc, pieces)?;
-    let shown = end_of(alloc, bytes.as_slice())?;
-    let mut source = SureSource::new(bytes);
-    let mut sink = SureSink::new(alloc);
-    let mut err = SureSink::new(alloc);
-    let found = run_alone(alloc, &[], &mut source, &mut sink, &mut err);
-    assert_eq!(rt; found, status, "at .. {shown}");
-    assert_eq!(rt; sink.bytes(), out, "at .. {shown}");
-    let line = line_of(alloc, status)?;
-    assert_eq!(rt; err.bytes(), line.as_bytes());
+    let sorted = by_key(rt.alloc(), out)?;
+    expect_under(rt, &[], bytes, sorted.as_str(), status)?;
+    for words in &WORDS {
+        expect_under(rt, words, bytes, sorted.as_str(), status)?;
+    }
     Ok(())
 }
 
@@ -121,8 +149,8 @@ fn status_of(name: &str) -> Status {
     }
 }
 
-/// Runs each line of a table, between two pieces. It has a text, what must be written, and the
-/// status, with `|` between them and `;` in place of each line feed.
+/// Runs each line of a table, between two pieces, with no words and under each of `WORDS`. It has a text, what must be written,
+/// and the status, with `|` between them and `;` in place of each line feed.
 pub fn expect_table(
     rt: &(impl Abort + AllocGlobal),
     before: &[u8],
@@ -135,12 +163,8 @@ pub fn expect_table(
         let text = fed(alloc, parts.next().unwrap_or(""))?;
         let out = fed(alloc, parts.next().unwrap_or(""))?;
         let status = status_of(parts.next().unwrap_or(""));
-        expect_bytes(
-            rt,
-            &[before, text.as_slice(), after],
-            out.as_slice(),
-            status,
-        )?;
+        let bytes = joined(alloc, &[before, text.as_slice(), after])?;
+        expect_everywhere(rt, bytes.as_slice(), out.as_slice(), status)?;
     }
     Ok(())
 }

@@ -1,8 +1,11 @@
 //! Words, and sources and sinks that fail or take little at a time.
-use crate::expect::{COUNTER, joined, line_of, program};
+use crate::by_key::by_key;
+use crate::expect::{COUNTER, WORDS, joined, line_of, program};
 use crate::faulty::{FaultySink, FaultySource};
 use ax_base::{SinkFault, SureSink, SureSource};
 use ax_cli::{Status, run_alone};
+use std::alloc::AllocGlobal;
+use std::process::Abort;
 use std::test::Fail;
 
 #[test]
@@ -13,6 +16,11 @@ fn refused_words_read_nothing(rt: HostRuntime) -> Result<(), Fail> {
         ["", ""],
         ["--", "--"],
         ["--help", "x"],
+        ["--shards=8", "--max-parallelism=4"],
+        ["--batch", "0"],
+        ["--batch=5", "--batch=5"],
+        ["--in-flight", "65537"],
+        ["--io-threads", "4"],
     ] {
         let mut source = FaultySource::new(
             joined(alloc, &[COUNTER.as_bytes(), b"r a 1 5\n"])?,
@@ -47,7 +55,8 @@ fn words_name_the_key_groups(rt: HostRuntime) -> Result<(), Fail> {
         let words = ["--max-parallelism", groups];
         let status = run_alone(alloc, &words, &mut source, &mut sink, &mut err);
         assert_eq!(rt; status, Status::Ok, "{groups}");
-        assert_eq!(rt; sink.bytes(), out.as_bytes(), "{groups}");
+        let written = by_key(alloc, sink.bytes())?;
+        assert_eq!(rt; written.as_str(), out, "{groups}");
     }
     Ok(())
 }
@@ -203,24 +212,49 @@ fn no_answer_of_err_changes_the_status(rt: HostRuntime) -> Result<(), Fail> {
     Ok(())
 }
 
+// The source gives a few bytes at a time, and the sinks take as few.
+fn pieces_of(rt: &(impl Abort + AllocGlobal), words: &[&str], most: usize) -> Result<(), Fail> {
+    let alloc = rt.alloc();
+    let input = joined(
+        alloc,
+        &[COUNTER.as_bytes(), b"r a 1 5\r\n\nr b 2 1\nr a 3 7"],
+    )?;
+    let mut source = FaultySource::new(input, most, 1000);
+    let mut sink = FaultySink::new(alloc, most, 1000, SinkFault::Failed);
+    let mut err = FaultySink::new(alloc, most, 1000, SinkFault::Failed);
+    let found = run_alone(alloc, words, &mut source, &mut sink, &mut err);
+    assert_eq!(rt; found, Status::Ok);
+    let written = by_key(alloc, sink.bytes())?;
+    assert_eq!(rt; written.as_str(), "o a 5\no a 12\no b 1\n");
+    assert_eq!(rt; err.bytes(), b"".as_slice());
+    Ok(())
+}
+
 #[test]
 fn bytes_come_and_go_in_any_pieces(rt: HostRuntime) -> Result<(), Fail> {
-    let alloc = rt.alloc();
     for most in [1, 2, 3, 7, 64] {
-        let mut source = FaultySource::new(
-            joined(
-                alloc,
-                &[COUNTER.as_bytes(), b"r a 1 5\r\n\nr b 2 1\nr a 3 7"],
-            )?,
-            most,
-            1000,
-        );
-        let mut sink = FaultySink::new(alloc, most, 1000, SinkFault::Failed);
-        let mut err = FaultySink::new(alloc, most, 1000, SinkFault::Failed);
-        let found = run_alone(alloc, &[], &mut source, &mut sink, &mut err);
-        assert_eq!(rt; found, Status::Ok);
-        assert_eq!(rt; sink.bytes(), b"o a 5\no b 1\no a 12\n".as_slice());
-        assert_eq!(rt; err.bytes(), b"".as_slice());
+        pieces_of(&rt, &[], most)?;
+        for words in &WORDS {
+            pieces_of(&rt, words, most)?;
+        }
+    }
+    Ok(())
+}
+
+// The row of b asks nothing of a shard, and ends before that of a unless only one may be under way.
+#[test]
+fn a_row_overtakes_another(rt: HostRuntime) -> Result<(), Fail> {
+    let text =
+        b"input 1\nstate c value\non row\nif v1\nput c v1\nend\nemit v1\nend\n%%\nr a 1 5\nr b 2 0\n";
+    let alloc = rt.alloc();
+    for (limit, out) in [("1", "o a 5\no b 0\n"), ("6000", "o b 0\no a 5\n")] {
+        let mut source = SureSource::new(joined(alloc, &[text])?);
+        let mut sink = SureSink::new(alloc);
+        let mut err = SureSink::new(alloc);
+        let words = ["--in-flight", limit];
+        let status = run_alone(alloc, &words, &mut source, &mut sink, &mut err);
+        assert_eq!(rt; status, Status::Ok, "{limit}");
+        assert_eq!(rt; sink.bytes(), out.as_bytes(), "{limit}");
     }
     Ok(())
 }

@@ -1,5 +1,5 @@
 //! Tests of the crates that read and write text: bytes and lines, keys, expressions, programs and their first faults, events,
-//! output lines, snapshot blocks, and the words of the command line.
+//! output lines and snapshot blocks.
 #![tactic(auto)]
 
 #[cfg(test)]
@@ -21,5 +21,3 @@ mod snapshots;
 mod streams;
 #[cfg(test)]
 mod texts;
-#[cfg(test)]
-mod words;

@@ -1,3 +1,5 @@
 pub mod ClapReads
 pub mod ClapCommand
 pub mod Asked
+pub mod Ranges
+pub mod Found

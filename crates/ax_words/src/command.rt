@@ -1,6 +1,7 @@
 //! The command line as `clap` is told of it.
 ghost use Rattle.std.specs.Prelude.{◌≡◌, [], true, false, IfOk};
 ghost use Rattle.clap.specs.Words.{app_of, rule_of};
+ghost use Rattle.clap.specs.Simple.{with_rule};
 ghost use Rattle.ax_words.specs.Words.{spellings_of};
 ghost use Rattle.ax_words.specs.Options.{options};
 ghost use Rattle.ax_words.specs.Command.{app_for, rule_for};
@@ -26,9 +27,24 @@ fn bare_command<'a>(alloc: Global) -> Command<'a>
         .disable_version_flag(true)
 }
 
+// A command with one more option.
+fn with_option<'a>(
+    command: Command<'a>,
+    alloc: Global,
+    name: &'a str,
+) -> Result<Command<'a>, AllocError>
+    ensures { IfOk result (λ c. app_of c ≡ with_rule (app_of command.entry) (rule_for (name.entry.now, true))) }
+{
+    command.arg(option(alloc, name))
+}
+
 /// The command with all options.
 pub(crate) fn command<'a>(alloc: Global) -> Result<Command<'a>, AllocError>
     ensures { IfOk result (λ c. app_of c ≡ app_for (spellings_of options)) }
 {
-    bare_command(alloc).arg(option(alloc, "max-parallelism"))
+    let command = with_option(bare_command(alloc), alloc, "max-parallelism")?;
+    let command = with_option(command, alloc, "in-flight")?;
+    let command = with_option(command, alloc, "batch")?;
+    let command = with_option(command, alloc, "shards")?;
+    with_option(command, alloc, "io-threads")
 }

@@ -1,10 +1,10 @@
 //! Laws of the reading of words, each the contract of an empty function: of this program's options, and of a
 //! small table with a flag (`quiet`), one of two words (`pace`, `slow` by default), and a number from 1 to 100
 //! that is off by default (`rows`).
-ghost use Rattle.std.specs.Prelude.{◌≡◌, [], ◌∷◌, true, false, Some, None, codes};
+ghost use Rattle.std.specs.Prelude.{◌≡◌, [], ◌∷◌, List, true, false, IfSome, Some, None, codes};
 ghost use Rattle.std.specs.List.{All};
-ghost use Rattle.ax_words.specs.Words.{is_fine};
-ghost use Rattle.ax_words.specs.Options.{options, options_of};
+ghost use Rattle.ax_words.specs.Words.{Text, is_fine};
+ghost use Rattle.ax_words.specs.Options.{AreInRange, options, options_of};
 ghost use Rattle.ax_words.specs.Sample.{sample_of};
 
 /// The default of each option, where it has one, is a value that it takes.
@@ -12,9 +12,39 @@ pub fn default_law()
     ensures { All (λ r. is_fine r.takes r.default ≡ true) options }
 {}
 
-/// With no words there are 128 key groups.
+/// With no words there are 128 key groups over 8 shards, at most 6,000 rows and firings under way, batches of at most 1,000
+/// requests, and no further threads.
 pub fn no_words_law()
-    ensures { options_of [] ≡ Some (record { max_parallelism = 128 }) }
+    ensures { options_of [] ≡ Some (record { max_parallelism = 128; in_flight = 6000; batch = 1000; shards = 8; io_threads = 0 }) }
+{}
+
+/// Where words are accepted, each option is in its range.
+pub fn options_in_range_law()
+    ensures { (words : List Text) → IfSome (options_of words) AreInRange }
+{}
+
+/// Each option has the value that it is given, in any order and by either spelling.
+pub fn options_of_words_law()
+    ensures all { options_of (codes "--batch=5" ∷ codes "--shards" ∷ codes "3" ∷ codes "--in-flight" ∷ codes "1" ∷ codes "--io-threads=0" ∷ codes "--max-parallelism" ∷ codes "4" ∷ [])
+        ≡ Some (record { max_parallelism = 4; in_flight = 1; batch = 5; shards = 3; io_threads = 0 }) }
+    ensures greatest { options_of (codes "--max-parallelism=32768" ∷ codes "--in-flight=65536" ∷ codes "--batch=65536" ∷ codes "--shards=64" ∷ [])
+        ≡ Some (record { max_parallelism = 32768; in_flight = 65536; batch = 65536; shards = 64; io_threads = 0 }) }
+    ensures batch_zero { options_of (codes "--batch" ∷ codes "0" ∷ []) ≡ None }
+    ensures batch_above { options_of (codes "--batch=65537" ∷ []) ≡ None }
+    ensures batch_twice { options_of (codes "--batch" ∷ codes "5" ∷ codes "--batch" ∷ codes "5" ∷ []) ≡ None }
+    ensures in_flight_zero { options_of (codes "--in-flight=0" ∷ []) ≡ None }
+    ensures in_flight_above { options_of (codes "--in-flight" ∷ codes "65537" ∷ []) ≡ None }
+    ensures threads { options_of (codes "--io-threads" ∷ codes "1" ∷ []) ≡ None }
+{}
+
+/// There are 8 shards, or one for each key group where there are fewer; a number that is given is from 1 to 64, and at most that of
+/// the key groups.
+pub fn shards_law()
+    ensures fewer { options_of (codes "--max-parallelism" ∷ codes "4" ∷ []) ≡ Some (record { max_parallelism = 4; in_flight = 6000; batch = 1000; shards = 4; io_threads = 0 }) }
+    ensures one_each { options_of (codes "--shards=4" ∷ codes "--max-parallelism=4" ∷ []) ≡ Some (record { max_parallelism = 4; in_flight = 6000; batch = 1000; shards = 4; io_threads = 0 }) }
+    ensures above_groups { options_of (codes "--shards" ∷ codes "8" ∷ codes "--max-parallelism" ∷ codes "4" ∷ []) ≡ None }
+    ensures zero { options_of (codes "--shards=0" ∷ []) ≡ None }
+    ensures above { options_of (codes "--shards" ∷ codes "65" ∷ []) ≡ None }
 {}
 
 /// What an option has that isn't given: a flag is off, a word its default, and a number without default is off.

@@ -12,6 +12,8 @@
 mod command;
 pub mod laws;
 pub mod options;
+#[cfg(test)]
+mod tests;
 pub mod words;
 
 pub use options::{Options, WordFault};

@@ -7,6 +7,18 @@ pub struct Options {
     /// `--max-parallelism`: into how many key groups the keys are cut, from 1 to 32768. The default
     /// is 128.
     pub max_parallelism: u16,
+    /// `--in-flight`: how many rows and firings may be under way at once, from 1 to 65536. The
+    /// default is 6000.
+    pub in_flight: u32,
+    /// `--batch`: at most how many requests go to a shard together, from 1 to 65536. The default is
+    /// 1000.
+    pub batch: u32,
+    /// `--shards`: how many shards hold the states of the keys, from 1 to 64, and at most
+    /// `max_parallelism`. The default is the lesser of 8 and that.
+    pub shards: u16,
+    /// `--io-threads`: how many threads serve the shards beside the one that runs the program. None
+    /// is built yet, so it is 0.
+    pub io_threads: u16,
 }
 
 /// Why words are not read.

@@ -1,11 +1,11 @@
 //! The reader of the command line's words.
-ghost use Rattle.std.specs.Prelude.{◌≡◌, ◌≤◌, IfOk, IfErr, IfSome, None, Some};
+ghost use Rattle.std.specs.Prelude.{◌≡◌, ◌≤◌, IfOk, IfErr, IfSome, None, Some, if◌then◌else◌};
 ghost use Rattle.std.specs.List.{All};
 ghost use Rattle.std.specs.Str.{IsUtf8};
 ghost use Rattle.clap.specs.Words.{found_of, first_value};
 ghost use Rattle.clap.specs.declared.error.kind.ErrorKind.TheVariants.{OutOfMemory};
-ghost use Rattle.ax_words.specs.Words.{number_in};
-ghost use Rattle.ax_words.specs.Options.{options_of, options_with, texts};
+ghost use Rattle.ax_words.specs.Words.{Number, is_fine, number_if_on, number_in};
+ghost use Rattle.ax_words.specs.Options.{AreInRange, options_of, options_with, shards, shards_of, texts};
 
 use crate::command::command;
 use crate::options::{Options, WordFault};
@@ -54,18 +54,47 @@ fn number_in(value: &str, least: u32, greatest: u32) -> Option<u32>
     }
 }
 
+// The number of an option, by the value that clap found or its default.
+fn number_found(
+    matches: &ArgMatches,
+    name: &str,
+    least: u32,
+    greatest: u32,
+    default: &str,
+) -> Option<u32>
+    ensures number { result ≡ number_if_on (first_value (found_of matches.now)) (record { name = name.now; takes = Number least greatest; default = Some default.now }) }
+    ensures range { IfSome result (λ n. (least ≤ n) × (n ≤ greatest)) }
+{
+    number_in(matches.get_str(name).unwrap_or(default), least, greatest)
+}
+
+// The number of shards with so many key groups.
+fn shards_found(matches: &ArgMatches, groups: u32) -> Option<u32>
+    ensures number { result ≡ (if is_fine shards.takes (first_value (found_of matches.now) shards.name) then shards_of (first_value (found_of matches.now)) groups else None) }
+    ensures range { IfSome result (λ n. (n ≤ 64) × (n ≤ groups)) }
+{
+    let count = match matches.get_str("shards") {
+        None => groups.min(8),
+        Some(value) => number_in(value, 1, 64)?,
+    };
+    if count <= groups { Some(count) } else { None }
+}
+
 // What the values that clap found ask for.
 fn options_found(matches: &ArgMatches) -> Option<Options>
-    ensures options { result ≡ options_with (first_value (found_of matches.now)) }
-    ensures groups { IfSome result (λ o. (1 ≤ o.max_parallelism) × (o.max_parallelism ≤ 32768)) }
+    ensures { result ≡ options_with (first_value (found_of matches.now)) }
 {
-    let groups = number_in(
-        matches.get_str("max-parallelism").unwrap_or("128"),
-        1,
-        32768,
-    )?;
+    let groups = number_found(matches, "max-parallelism", 1, 32768, "128")?;
+    let in_flight = number_found(matches, "in-flight", 1, 65536, "6000")?;
+    let batch = number_found(matches, "batch", 1, 65536, "1000")?;
+    let shards = shards_found(matches, groups)?;
+    let io_threads = number_found(matches, "io-threads", 0, 0, "0")?;
     Some(Options {
         max_parallelism: groups as u16,
+        in_flight,
+        batch,
+        shards: shards as u16,
+        io_threads: io_threads as u16,
     })
 }
 
@@ -75,7 +104,7 @@ fn options_found(matches: &ArgMatches) -> Option<Options>
 pub fn read_words(alloc: Global, words: &[&str]) -> Result<Options, WordFault>
     ensures accepted { IfOk result (λ o. options_of (texts words.now) ≡ Some o) }
     ensures refused { IfErr result (λ e. e ≡ WordFault.Usage → options_of (texts words.now) ≡ None) }
-    ensures groups { IfOk result (λ o. (1 ≤ o.max_parallelism) × (o.max_parallelism ≤ 32768)) }
+    ensures ranges { IfOk result AreInRange }
 {
     note_texts(words);
     let Ok(command) = command(alloc) else {

@@ -1,4 +1,3 @@
-use Rattle.std.proofs.Common.{true}
 use Rattle.ax_lang.specs.Shown.{shown_program}
 use Rattle.ax_task.specs.Parse.{first_last}
 use Rattle.ax_task.specs.Passes.{events_at}

@@ -1,4 +1,4 @@
-use Rattle.std.proofs.Common.{◌++◌, rules, ◌∙◌, ℕ, List, Option, true, sym, ap, subst}
+use Rattle.std.proofs.Common.{◌++◌, rules, ◌∙◌, ℕ, List, Option, sym, ap, subst}
 use Rattle.std.specs.Io.KnownBytes.{append_known}
 use Rattle.ax_base.specs.Gathered.{Begins}
 use Rattle.ax_base.specs.Outside.{Counts, Told}

@@ -1,4 +1,4 @@
-use Rattle.std.proofs.Common.{true, subst, sym}
+use Rattle.std.proofs.Common.{subst, sym}
 use Rattle.ax_base.specs.Outside.{Told}
 use Rattle.ax_task.specs.Parse.{parse}
 use Rattle.ax_task.specs.Clause.{RunEnds, Stops, EndCounts}

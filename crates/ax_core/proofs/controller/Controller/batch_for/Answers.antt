@@ -10,8 +10,8 @@ use Rattle.ax_core.specs.Flow.{out_of}
 use Rattle.ax_core.specs.Events.{AsksAll, names_in, OfKeys}
 use Rattle.ax_core.specs.Order.{SendsFirst}
 use Rattle.ax_core.proofs.BatchLemmas.{outs_put, there_too, sound_out, stands_out, asks_batch, of_keys, of_keys_in}
-use Rattle.ax_core.proofs.Orders.{sends_first}
 use Rattle.ax_core.proofs.BatchFits.{fit_batch}
+use Rattle.ax_core.proofs.Orders.{sends_first}
 use Rattle.ax_core.proofs.controller.Controller.batch_for.Goals as goal
 
 pub returns-clause-sound : goal.returns-clause-sound
@@ -62,6 +62,7 @@ returns-clause-order c =
     let there : (c.args.shard < length a.buffer.queues) × (c.args.shard < length a.outs.items) = there_too a c.args.shard c.requires.sound.flow c.requires.shard in
     subst (λ (is : List Item). SendsFirst a b c.args.shard c.args.max is) (sym c.in_ok-batch.ensures.batch)
     (sends_first a b c.args.shard c.args.max c.requires.sound.flow there.0 refl c.in_ok-batch.ensures.queues refl)
+
 pub returns-clause-fit : goal.returns-clause-fit
 returns-clause-fit c =
     let a : Controller = c.args.self.now in

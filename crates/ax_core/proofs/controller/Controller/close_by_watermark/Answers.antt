@@ -1,6 +1,8 @@
 use Rattle.std.proofs.Common.{◌↔◌, ◌<ℤ◌, ℤ, w64, to_z, of_z, length, List, refl, sym, ap, ◌∙◌, subst, arith}
 use Rattle.std.proofs.lemmas.Int.{to_z-of_z}
 use Rattle.std.specs.List.{Contains}
+use Rattle.std.specs.List.Sorted.{IsStrictlySortedBy}
+use Rattle.ax_keys.specs.Keys.{key_cmp}
 use Rattle.ax_text.specs.Times.{HasDue}
 use Rattle.ax_machine.specs.Entries.{Key}
 use Rattle.ax_time.specs.Epochs.{Book, Fits64}
@@ -10,6 +12,8 @@ use Rattle.ax_core.specs.Closings.{MarksAll, books, every}
 use Rattle.ax_core.specs.Sound.{IsSound}
 use Rattle.ax_core.specs.Events.{Makes}
 use Rattle.ax_core.proofs.ClosedBy.{with_mark, few_count, mark_closes, mark_sound}
+use Rattle.ax_core.specs.Order.{BecomeIdle}
+use Rattle.ax_core.proofs.IdleKeys.{marked_idle}
 use Rattle.ax_core.proofs.Orders.{posts_none}
 use Rattle.ax_core.proofs.controller.Controller.close_by_watermark.Goals as goal
 
@@ -55,3 +59,13 @@ returns-clause-event c = λ m h.
 
 pub returns-clause-order : goal.returns-clause-order
 returns-clause-order c = posts_none c.args.self.now (with_mark c.args.self.now (to_z w64 (of_z w64 c.args.time)) c.mark_free.new.accounts c.close.new.self) c.requires.sound.flow refl refl refl
+
+pub returns-clause-idle : goal.returns-clause-idle
+returns-clause-idle c = λ m h.
+    subst (λ (z : ℤ). BecomeIdle c.args.self.now (with_mark c.args.self.now (to_z w64 (of_z w64 c.args.time)) c.mark_free.new.accounts c.close.new.self) z m) (to_z-of_z w64 c.args.time c.ranges.time)
+    (marked_idle c.args.self.now (to_z w64 (of_z w64 c.args.time)) c.in_ok-busy.ensures.sound c.as_slice-4.result.now
+    (subst (λ (ks : List Key). (q : Key) → Contains ks q ↔ HasDue (to_z w64 (of_z w64 c.args.time)) (times_of c.args.self.now.timers q)) (sym c.as_slice-4.ensures) c.in_ok-due.ensures.due)
+    (subst (IsStrictlySortedBy key_cmp) (sym c.as_slice-4.ensures) c.in_ok-due.ensures.rising)
+    (books c.mark_all.new.accounts c.mark_all.new.epochs) (books c.mark_free.new.accounts c.mark_free.new.epochs)
+    (subst (λ (ks : List Key). MarksAll every (to_z w64 (of_z w64 c.args.time)) ks (books c.args.self.now.accounts c.args.self.now.epochs) (books c.mark_all.new.accounts c.mark_all.new.epochs)) (c.as_slice-3.ensures ∙ c.in_ok-busy.ensures.keys) c.in_ok-mark_all.ensures.marks)
+    c.in_ok-mark_free.ensures.marks c.close.new.self m h)

@@ -36,3 +36,6 @@ returns-clause-order c =
     let b : Controller = record c.forget.new.self { mails = c.post_all.new.mails } in
     posts_replies c.args.self.now b c.args.r c.requires.sound.flow (ap (λ (d : Controller). d.contexts) c.forget.ensures.same) (ap (λ (d : Controller). d.buffer.queues) c.forget.ensures.same)
     (c.post_all.ensures.mails ∙ ap (λ (d : Controller). d.mails.mails ++ mails_in c.args.r) c.forget.ensures.same)
+
+pub returns-clause-idle : goal.returns-clause-idle
+returns-clause-idle c = ap (λ (d : Controller). d.accounts.idle) c.forget.ensures.same

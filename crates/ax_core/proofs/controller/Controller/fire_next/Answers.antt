@@ -4,6 +4,7 @@ use Rattle.ax_account.specs.Queues.{first_of}
 use Rattle.ax_execution.specs.Accepted.{AreAccepted}
 use Rattle.ax_core.proofs.FiresStand.{mail_left, not_owned, mark_left, timer_there, fires_next, sound_next, same_next}
 use Rattle.ax_core.proofs.KeysStay.{keys_made}
+use Rattle.ax_core.proofs.IdleKeys.{fires_first}
 use Rattle.ax_core.proofs.Orders.{posts_fires}
 use Rattle.ax_core.proofs.controller.Controller.fire_next.Goals as goal
 
@@ -53,3 +54,8 @@ returns-clause-keys c = keys_made c.args.self.now c.fire.new.self c.in_ok-fired.
 
 pub returns-clause-order : goal.returns-clause-order
 returns-clause-order c = posts_fires c.args.self.now c.fire.new.self c.in_ok-key.key c.in_ok-fired.fired c.requires.sound.flow c.in_ok-fired.ensures
+
+pub returns-clause-idle : goal.returns-clause-idle
+returns-clause-idle c =
+    let first : first_of c.args.self.now.accounts.idle ≡ Some c.in_ok-key.key = sym c.in-Some.ensures.value ∙ sym (ap Some c.in_ok-key.ensures) in
+    fires_first c.args.self.now c.fire.new.self c.in_ok-key.key c.in_ok-fired.fired c.first_idle.ensures.sound first c.in_ok-fired.ensures

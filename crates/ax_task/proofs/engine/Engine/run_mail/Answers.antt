@@ -1,4 +1,4 @@
-use Rattle.std.proofs.Common.{List, ℕ, ℤ, refl, subst}
+use Rattle.std.proofs.Common.{List, ℤ, refl, subst}
 use Rattle.std.specs.Io.KnownBytes.{Appends}
 use Rattle.ax_base.specs.Outside.{AppendsSome}
 use Rattle.ax_machine.specs.Entries.{text_of, says}

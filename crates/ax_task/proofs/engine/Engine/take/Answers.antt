@@ -1,5 +1,5 @@
 use Rattle.std.proofs.Common.{◌≡◌, ℤ, w64, to_z, of_z, OnOk, rules, refl, sym, subst}
-use Rattle.ax_machine.specs.Events.{Row, Mark, Barrier}
+use Rattle.ax_machine.specs.Events.{Mark, Barrier}
 use Rattle.ax_input.specs.Shown.{shown_event}
 use Rattle.ax_input.specs.declared.event.Event.{Event as CodeEvent}
 use Rattle.ax_time.specs.declared.epoch.Marker.{Marker}

@@ -1,4 +1,4 @@
-use Rattle.std.proofs.Common.{true, false, ◌≡◌, refl, sym, ap, ◌∙◌}
+use Rattle.std.proofs.Common.{sym, ap, ◌∙◌}
 use Rattle.ax_time.proofs.KeptLemmas.{if_ok}
 use Rattle.ax_core.specs.May.{has_mail}
 use Rattle.std.specs.Io.KnownBytes.{append_known}

@@ -3,7 +3,7 @@ use mathlib.Core.Path.{fun_ext}
 use Rattle.ax_text.specs.Cells.{Cells, cells_after}
 use Rattle.ax_state.specs.KeyCells.{shown_cells}
 use Rattle.ax_state.specs.Decls.{kinds}
-use Rattle.ax_task.specs.Serving.{Holding, cells_or, content_in, content_of, content_with}
+use Rattle.ax_task.specs.Serving.{Holding, cells_or, content_of, content_with}
 use Rattle.ax_task.proofs.BatchLemmas.{applied, unchanged, at_err, held_at}
 use Rattle.ax_task.proofs.shard.Shard.apply_held.Goals as goal
 

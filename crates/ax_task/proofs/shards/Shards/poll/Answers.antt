@@ -1,9 +1,8 @@
-use Rattle.std.proofs.Common.{◌≡◌, ◌∙◌, ◌<◌, ◌≤◌, [], List, ℕ, length, get_or, set, ap, refl, sym, subst, arith}
+use Rattle.std.proofs.Common.{◌≡◌, ◌∙◌, ◌<◌, List, length, get_or, set, ap, sym, arith}
 use Rattle.std.proofs.lemmas.List.{get_or_default, length-set}
 use Rattle.ax_buffer.specs.declared.items.Item.{Item}
 use Rattle.ax_state.specs.Decls.{kinds}
-use Rattle.ax_task.specs.Serving.{Holding}
-use Rattle.ax_task.specs.Shards.{Serving, AreSound}
+use Rattle.ax_task.specs.Shards.{Serving}
 use Rattle.ax_task.proofs.SoundLemmas.{there, fits_there, kinds_are, sound_behind, came_behind}
 use Rattle.ax_task.proofs.shards.Shards.poll.Goals as goal
 
@@ -46,8 +45,7 @@ invariant_of-self c =
     let in_sent : place < length v.sent = omega (arith, c.next_place-place.ensures.small, c.len.ensures, inside.sent.ok) in
     let chosen : c.from-at.result ≡ get_or v.sent place 0 = c.from-at.ensures ∙ c.remove-shard.ensures.value ∙ get_or_default v.sent place c.remove-shard.result 0 in_sent in
     let left = ap (λ (b : List Item). set inside.batches.items c.from-at.result b) (c.replace-batch.ensures.after ∙ c.new.ensures) in
-    let same = c.serve-replies.ensures.kinds ∙ kinds_are v (c.self.invariant).0 place c.from-at.result in_sent chosen c.index_mut-2.result.now c.index_mut-2.ensures.value in
-    (
+    let same = c.serve-replies.ensures.kinds ∙ kinds_are v (c.self.invariant).0 place c.from-at.result in_sent chosen c.index_mut-2.result.now c.index_mut-2.ensures.value in (
       sound_behind v (c.self.invariant).0 place c.from-at.result in_sent chosen c.serve-replies.new.self c.next_place-place.new.order.items (set inside.batches.items c.from-at.result c.replace-batch.new.dest) c.remove-shard.new.self.items left c.remove-shard.ensures.items same,
       omega (arith, (c.self.invariant).1, c.remove-shard.ensures.capacity, length-set inside.shards.items c.from-at.result c.serve-replies.new.self),
     )

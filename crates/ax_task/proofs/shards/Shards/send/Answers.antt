@@ -1,8 +1,8 @@
-use Rattle.std.proofs.Common.{◌≡◌, ◌∙◌, ◌<◌, ◌≤◌, ◌≢◌, ◌++◌, ◌∷◌, [], List, ℕ, length, set, ap, sym, subst, arith}
+use Rattle.std.proofs.Common.{◌≡◌, ◌<◌, ◌++◌, ◌∷◌, [], List, ℕ, length, set, ap, sym, subst, arith}
 use Rattle.ax_buffer.specs.declared.items.Item.{Item}
 use Rattle.ax_state.specs.Decls.{kinds}
 use Rattle.ax_task.specs.Serving.{AllFit}
-use Rattle.ax_task.specs.Shards.{Serving, shard_count, out, AreSound}
+use Rattle.ax_task.specs.Shards.{Serving, out, AreSound}
 use Rattle.ax_task.proofs.SoundLemmas.{room_left, sound_sent}
 use Rattle.ax_task.proofs.shards.Shards.send.Goals as goal
 

@@ -1,0 +1,9 @@
+use Rattle.ax_core_tests.specs.Hands.{IsReady}
+use Rattle.ax_core_tests.proofs.by_hand.told_by.Given as goal
+
+abbrev pub invariant-loop-line : goal.invariant-loop-line
+invariant-loop-line g l = record {
+  next : (goal.iterator-loop-line g).can_next l.line-iterator;
+  ends : (goal.iterator-loop-line g).is_finite l.line-iterator;
+  hand : IsReady l.hand;
+}
