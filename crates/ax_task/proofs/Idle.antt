@@ -145,7 +145,7 @@ module _ (e : Engine) (r : IsReady e) (waits : NothingWaits e) (quiet : IsQuiet 
   nothing_owed : owed_in (control_of_machine m) ≡ 0
   nothing_owed =
       let queues : total_of length e.core.buffer.queues ≡ 0 =
-          none_in_all e.core.buffer.queues (λ i l. waits.queues i (subst (λ (n : ℕ). i < n) (x.sound.flow.shards.0 ∙ sym (ap (λ (t : Settings). t.shards) same_settings)) l)) in
+      none_in_all e.core.buffer.queues (λ i l. waits.queues i (subst (λ (n : ℕ). i < n) (x.sound.flow.shards.0 ∙ sym (ap (λ (t : Settings). t.shards) same_settings)) l)) in
       let outs : total_of length e.core.outs.items ≡ 0 = none_in_all e.core.outs.items (λ i l. x.refines.names i ∙ ap names_in (waits.home i)) in
       let none : length e.core.mails.mails ≡ 0 = no_mails e.core.mails.mails mails in
       omega (arith, x.refines.stands.stands.way, queues, outs, none)

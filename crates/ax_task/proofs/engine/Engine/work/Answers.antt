@@ -17,4 +17,4 @@ returns-clause-quiet g c =
     (λ m h y. true_false (sym ((c.may_fire.ensures.exact m c.requires.ready.stands.sound h).1 y) ∙ c.if-may_fire.false))
 
 pub returns-clause-mails : goal.returns-clause-mails
-returns-clause-mails g c = if_ok c.send_marker.result (λ done same. λ h. ap has_mail (same h) ∙ (sym c.mail_waits.ensures ∙ c.if-mail_waits.false)) c.send_marker.ensures.core
+returns-clause-mails g c = if_ok c.send_marker.result (λ done same. λ h. ap has_mail (same h) ∙ (sym c.mail_waits.ensures.value ∙ c.if-mail_waits.false)) c.send_marker.ensures.core
