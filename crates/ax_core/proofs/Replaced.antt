@@ -50,7 +50,7 @@ is_mapped f (x ∷ xs) y c = elim (first_or (f x) (map f xs) y c) [
 
 -- ---- what is asked, and what waits on
 
--- the item of a request is of the context and its key, and the request was asked
+-- an item is of the context and its key, and was asked
 pub record IsOfAsks (id : Id) (key : Key) (asks : List Ask) (i : Item) : Type 0 where
   pub of_id : i.id ≡ id
   pub of_key : i.key ≡ key

@@ -37,7 +37,7 @@ use Rattle.ax_core.specs.Events.{StageAsksIt, OwnerAsks}
 true_false : true ≡ false → ⊥
 true_false e = cc e
 
--- the request of a slot, among those that wait
+-- what is asked at a slot, among those that wait
 abbrev pub asked_at : List Asked → ℕ → Option Request
 asked_at [] n = None
 asked_at (x ∷ xs) n = cond (nat_eq n x.slot) (Some x.request) (asked_at xs n)

@@ -26,3 +26,6 @@ pub mod TaskLemmas
 pub mod ReadingLemmas
 pub mod Snapping
 pub mod Sending
+pub mod Idle
+pub mod Lesser
+pub mod Going

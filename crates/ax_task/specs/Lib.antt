@@ -14,3 +14,4 @@ pub mod Tasks
 pub mod HeldKeys
 pub mod Snapped
 pub mod Exchanged
+pub mod Due

@@ -93,6 +93,7 @@ pub record HasEnded (s : Settings) (p : Program) (from : From) (now : Outer) (e 
 -- a step went on, or ended the run
 abbrev pub StepLeaves : Settings → Program → From → Engine → Reading → Reader → Outer → Step → Type 0
 StepLeaves s p from e r lines now step.Went = IsUnderway s p from e r lines now
+StepLeaves s p from e r lines now step.Took = IsUnderway s p from e r lines now
 StepLeaves s p from e r lines now (step.End end) = HasEnded s p from now end
 
 abbrev pub Steps : Engine → Engine → Reading → Reading → Reader → Reader → Outer → Outer → Step → Type 0
@@ -106,3 +107,19 @@ pub record TakesHeld (e e' : Engine) (r r' : Reading) : Type 0 where
   pub events : r'.events ≡ r.events
   pub found : r'.found ≡ r.found
   pub takes : Takes e e' (shown_event event)
+
+-- a round takes an event, or the run has ended
+abbrev pub round_step : Option End → Step
+round_step None = step.Took
+round_step (Some end) = step.End end
+
+-- a task is somewhere on its way
+pub record IsOnItsWay (e : Engine) (r : Reading) (lines : Reader) (now : Outer) : Type 0 where
+  pub settings : Settings
+  pub program : Program
+  pub from : From
+  pub underway : IsUnderway settings program from e r lines now
+
+-- wherever the task is, it has ended so
+abbrev pub EndsWell : Engine → Reading → End → Type 0
+EndsWell e r end = (s : Settings) (p : Program) (from : From) (lines : Reader) (now : Outer) → IsUnderway s p from e r lines now → HasEnded s p from now end

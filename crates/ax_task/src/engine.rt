@@ -8,6 +8,8 @@ ghost use Rattle.ax_execution.specs.MachineControls.{MachineControl, in_flight_o
 ghost use Rattle.ax_execution.specs.ControlsAllowed.{FirstIsFinishedOn};
 ghost use Rattle.ax_core.specs.May.{may_fire, may_close, has_mail};
 ghost use Rattle.ax_core.specs.Sound.{InRange, StandsFor};
+ghost use Rattle.ax_task.specs.Exchanged.{LessIsLeft};
+ghost use Rattle.ax_task.specs.Due.{IsFree};
 ghost use Rattle.ax_task.specs.Engines.{Stands, IsReady, MovesOn, Takes, Writes, WritesSome, IsQuiet, WroteMarker, WritesPart, may_take};
 
 use crate::config::Config;
@@ -75,7 +77,8 @@ impl Engine {
     fn fire(&mut self) -> Result<(), NoMemory>
         requires ready { IsReady self.old }
         requires may { may_fire self.old.core ≡ true }
-        ensures { OnOk result (MovesOn self.old self.new) }
+        ensures moves { OnOk result (MovesOn self.old self.new) }
+        ensures falls { OnOk result (LessIsLeft self.old self.new) }
     {
         self.core.fire_next()?;
         Ok(())
@@ -87,6 +90,7 @@ impl Engine {
         requires ready { IsReady self.old }
         requires mail { has_mail self.old.core ≡ true }
         ensures writes { OnOk result (Writes self.old self.new (K.holds out.old) (K.holds out.new)) }
+        ensures falls { OnOk result (LessIsLeft self.old self.new) }
         ensures part { OnErr result (WritesSome self.old (K.holds out.old) (K.holds out.new)) }
         ensures counts { OwnCounts (K.counts out.old) (K.counts out.new) result }
         ensures base { K.base out.new ≡ K.base out.old }
@@ -158,6 +162,8 @@ impl Engine {
         ensures writes { OnOk result (Writes self.old self.new (append_known (K.holds out.old.inner.now) out.old.room.now) (append_known (K.holds out.new.inner.now) out.new.room.now)) }
         ensures none { IfOk result (λ sent. sent ≡ false → (m : MachineControl) → StandsFor self.new.core m → FirstIsFinishedOn m.unsent m → ⊥) }
         ensures core { IfOk result (λ sent. sent ≡ false → self.new.core ≡ self.old.core) }
+        ensures still { IfOk result (λ sent. sent ≡ false → self.new ≡ self.old) }
+        ensures falls { IfOk result (λ sent. sent ≡ true → LessIsLeft self.old self.new) }
         ensures part { OnErr result (WritesSome self.old (append_known (K.holds out.old.inner.now) out.old.room.now) (append_known (K.holds out.new.inner.now) out.new.room.now)) }
         ensures counts { OwnCounts (K.counts out.old.inner.now) (K.counts out.new.inner.now) result }
         ensures same { out.new.inner.ghost_name ≡ out.old.inner.ghost_name }
@@ -175,6 +181,9 @@ impl Engine {
         requires ready { IsReady self.old }
         ensures writes { OnOk result (Writes self.old self.new (append_known (K.holds out.old.inner.now) out.old.room.now) (append_known (K.holds out.new.inner.now) out.new.room.now)) }
         ensures quiet { IfOk result (λ done. done ≡ false → IsQuiet self.new.core) }
+        ensures mails { IfOk result (λ done. done ≡ false → has_mail self.new.core ≡ false) }
+        ensures still { IfOk result (λ done. done ≡ false → self.new ≡ self.old) }
+        ensures falls { IfOk result (λ done. done ≡ true → LessIsLeft self.old self.new) }
         ensures part { OnErr result (WritesSome self.old (append_known (K.holds out.old.inner.now) out.old.room.now) (append_known (K.holds out.new.inner.now) out.new.room.now)) }
         ensures counts { OwnCounts (K.counts out.old.inner.now) (K.counts out.new.inner.now) result }
         ensures same { out.new.inner.ghost_name ≡ out.old.inner.ghost_name }
@@ -192,9 +201,10 @@ impl Engine {
         self.send_marker(out)
     }
 
-    /// Whether an event can be taken.
+    /// Whether an event can be taken. Where nothing is in flight and no marker is to be sent, each can.
     pub fn may_take(&self, event: &Event) -> bool
-        ensures { result ≡ may_take self.now.core (shown_event event.now) }
+        ensures value { result ≡ may_take self.now.core (shown_event event.now) }
+        ensures free { IsFree self.now.core → result ≡ true }
     {
         match event {
             Event::Row { .. } => self.core.may_admit(),

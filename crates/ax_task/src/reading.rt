@@ -1,6 +1,7 @@
 //! The event that was read and not yet taken, and what the reader of events found behind the last.
-ghost use Rattle.std.specs.Prelude.{◌≡◌, None, false, OnOk, OnErr};
+ghost use Rattle.std.specs.Prelude.{◌≡◌, ◌≤◌, None, false, OnOk, OnErr};
 ghost use Rattle.ax_task.specs.Parse.{first_last};
+ghost use Rattle.ax_task.specs.Due.{due, IsLooked};
 ghost use Rattle.ax_task.specs.Tasks.{MayRead, ReadsOn, ReadsShort};
 
 use crate::end::End;
@@ -45,6 +46,8 @@ impl Reading {
         requires { MayRead lines.old self.old.found }
         ensures reads { OnOk result (ReadsOn self.old self.new lines.old lines.new (S.left input.old) (S.left input.new) (S.faults input.old) (S.faults input.new)) }
         ensures may { OnOk result (MayRead lines.new self.new.found) }
+        ensures looked { OnOk result (IsLooked self.new) }
+        ensures due { OnOk result (due self.new lines.new ≤ due self.old lines.old) }
         ensures short { OnErr result (ReadsShort self.old lines.old (S.left input.old) (S.left input.new) (S.faults input.old)) }
         ensures count { OnErr result (S.faults input.new ≡ S.faults input.old) }
     {
@@ -66,6 +69,8 @@ impl Reading {
         requires found { self.old.found ≡ None }
         ensures reads { OnOk result (ReadsOn self.old self.new lines.old lines.new (S.left input.old) (S.left input.new) (S.faults input.old) (S.faults input.new)) }
         ensures may { OnOk result (MayRead lines.new self.new.found) }
+        ensures looked { OnOk result (IsLooked self.new) }
+        ensures due { OnOk result (due self.new lines.new ≤ due self.old lines.old) }
         ensures short { OnErr result (ReadsShort self.old lines.old (S.left input.old) (S.left input.new) (S.faults input.old)) }
         ensures count { OnErr result (S.faults input.new ≡ S.faults input.old) }
     {

@@ -1,5 +1,5 @@
 //! A whole run: the program section, then the events, step by step.
-ghost use Rattle.std.specs.Prelude.{◌≡◌, ◌<◌, ◌+◌, true, false, IfOk, Option, List, ℕ};
+ghost use Rattle.std.specs.Prelude.{◌≡◌, ◌<◌, ◌+◌, true, false, IfOk, IfSome, Option, List, ℕ};
 ghost use Rattle.std.specs.Io.KnownBytes.{append_known};
 ghost use Rattle.ax_base.specs.Outside.{Counts, Told};
 ghost use Rattle.ax_base.specs.Given.{ahead};
@@ -10,8 +10,11 @@ ghost use Rattle.ax_task.specs.Parse.{parse, stream_of, first_last};
 ghost use Rattle.ax_task.specs.Reads.{sink_end, end_in_section, is_stopped};
 ghost use Rattle.ax_task.specs.Clause.{WritesLawful, StreamEnds, RunEnds, Stops, EndCounts};
 ghost use Rattle.ax_task.specs.Passes.{events_at, feed_of, Took, Wrote};
+ghost use Rattle.ax_core.specs.May.{has_mail};
 ghost use Rattle.ax_task.specs.Engines.{IsReady, IsQuiet};
-ghost use Rattle.ax_task.specs.Tasks.{Outer, MayRead, Steps, TakesHeld, HasEnded};
+ghost use Rattle.ax_task.specs.Exchanged.{NothingWaits};
+ghost use Rattle.ax_task.specs.Due.{IsFree, IsLooked, Goes};
+ghost use Rattle.ax_task.specs.Tasks.{Outer, MayRead, Steps, TakesHeld, HasEnded, IsOnItsWay, EndsWell, round_step};
 
 use crate::config::Config;
 use crate::end::End;
@@ -58,8 +61,10 @@ fn is_stopped(end: &End) -> bool
 /// What a step of a task did.
 #[derive(Clone, Copy, Debug, PartialEq, Eq)]
 enum Step {
-    /// One thing was done.
+    /// One thing was done for the events that were taken.
     Went,
+    /// An event was taken.
+    Took,
     /// The run has ended.
     End { end: End },
 }
@@ -78,6 +83,7 @@ impl Task {
         requires ready { IsReady self.old.engine }
         ensures taken { IfOk result (λ taken. taken ≡ true → TakesHeld self.old.engine self.new.engine self.old.reading self.new.reading) }
         ensures same { IfOk result (λ taken. taken ≡ false → (self.new.engine ≡ self.old.engine) × (self.new.reading ≡ self.old.reading)) }
+        ensures blocked { IfOk result (λ taken. taken ≡ false → IfSome self.new.reading.next (λ _. IsFree self.new.engine.core → ⊥)) }
     {
         let Some(event) = self.reading.next.take() else {
             return Ok(false);
@@ -102,6 +108,7 @@ impl Task {
         ensures steps { Steps self.old.engine self.new.engine self.old.reading self.new.reading lines.old lines.new
             (record { left = S.left input.old; reads = S.faults input.old; holds = append_known (K.holds out.old.inner.now) out.old.room.now; writes = K.counts out.old.inner.now })
             (record { left = S.left input.new; reads = S.faults input.new; holds = append_known (K.holds out.new.inner.now) out.new.room.now; writes = K.counts out.new.inner.now }) result }
+        ensures goes { Goes self.old.engine self.new.engine self.old.reading self.new.reading lines.old lines.new result }
         ensures same { out.new.inner.ghost_name ≡ out.old.inner.ghost_name }
     {
         match self.engine.work(out) {
@@ -117,9 +124,11 @@ impl Task {
         requires ready { IsReady self.old.engine }
         requires may { MayRead lines.old self.old.reading.found }
         requires quiet { IsQuiet self.old.engine.core }
-        ensures { (holds : Option (List ℕ)) (writes : Counts) → Steps self.old.engine self.new.engine self.old.reading self.new.reading lines.old lines.new
+        requires mails { has_mail self.old.engine.core ≡ false }
+        ensures steps { (holds : Option (List ℕ)) (writes : Counts) → Steps self.old.engine self.new.engine self.old.reading self.new.reading lines.old lines.new
             (record { left = S.left input.old; reads = S.faults input.old; holds = holds; writes = writes })
             (record { left = S.left input.new; reads = S.faults input.new; holds = holds; writes = writes }) result }
+        ensures goes { Goes self.old.engine self.new.engine self.old.reading self.new.reading lines.old lines.new result }
     {
         match self.reading.look(self.alloc, lines, input) {
             Ok(()) => self.take_or_exchange(lines),
@@ -131,10 +140,13 @@ impl Task {
     fn take_or_exchange(&mut self, lines: &Lines) -> Step
         requires ready { IsReady self.old.engine }
         requires quiet { IsQuiet self.old.engine.core }
-        ensures { (now : Outer) → Steps self.old.engine self.new.engine self.old.reading self.new.reading lines.now lines.now now now result }
+        requires mails { has_mail self.old.engine.core ≡ false }
+        requires looked { IsLooked self.old.reading }
+        ensures steps { (now : Outer) → Steps self.old.engine self.new.engine self.old.reading self.new.reading lines.now lines.now now now result }
+        ensures goes { Goes self.old.engine self.new.engine self.old.reading self.new.reading lines.now lines.now result }
     {
         match self.take_held() {
-            Ok(true) => Step::Went,
+            Ok(true) => Step::Took,
             Ok(false) => self.exchange(lines),
             Err(NoMemory) => Step::End { end: End::NoMemory },
         }
@@ -144,27 +156,56 @@ impl Task {
     fn exchange(&mut self, lines: &Lines) -> Step
         requires ready { IsReady self.old.engine }
         requires quiet { IsQuiet self.old.engine.core }
-        ensures { (now : Outer) → Steps self.old.engine self.new.engine self.old.reading self.new.reading lines.now lines.now now now result }
+        requires mails { has_mail self.old.engine.core ≡ false }
+        requires looked { IsLooked self.old.reading }
+        requires blocked { IfSome self.old.reading.next (λ _. IsFree self.old.engine.core → ⊥) }
+        ensures steps { (now : Outer) → Steps self.old.engine self.new.engine self.old.reading self.new.reading lines.now lines.now now now result }
+        ensures goes { Goes self.old.engine self.new.engine self.old.reading self.new.reading lines.now lines.now result }
     {
         match self.engine.exchange() {
             Ok(true) => Step::Went,
-            Ok(false) => self.ended(lines),
+            Ok(false) => Step::End { end: self.ended() },
             Err(NoMemory) => Step::End { end: End::NoMemory },
         }
     }
 
-    // What ended the events, where nothing is left to do.
-    fn ended(&self, lines: &Lines) -> Step
+    // What ended the events, where nothing is left to do: then no event is held, and an end was found.
+    fn ended(&self) -> End
+        requires ready { IsReady self.now.engine }
         requires quiet { IsQuiet self.now.engine.core }
-        ensures { (now : Outer) → Steps self.now.engine self.now.engine self.now.reading self.now.reading lines.now lines.now now now result }
+        requires mails { has_mail self.now.engine.core ≡ false }
+        requires waits { NothingWaits self.now.engine }
+        requires looked { IsLooked self.now.reading }
+        requires blocked { IfSome self.now.reading.next (λ _. IsFree self.now.engine.core → ⊥) }
+        ensures { EndsWell self.now.engine self.now.reading result }
     {
-        let Some(end) = self.reading.found else {
-            return Step::Went;
-        };
-        if self.reading.next.is_none() && self.engine.is_done() {
-            Step::End { end }
-        } else {
-            Step::Went
+        match self.reading.found {
+            Some(end) => end,
+            None => End::NoMemory,
+        }
+    }
+
+    // Does what there is to do until an event is taken, or the run has ended so.
+    fn until_taken<S: Source, K: Sink, B: Begun>(
+        &mut self,
+        lines: &mut Lines,
+        input: &mut S,
+        out: &mut Gather<'_, K, B>,
+    ) -> Option<End>
+        requires { IsOnItsWay self.old.engine self.old.reading lines.old
+            (record { left = S.left input.old; reads = S.faults input.old; holds = append_known (K.holds out.old.inner.now) out.old.room.now; writes = K.counts out.old.inner.now }) }
+        ensures steps { Steps self.old.engine self.new.engine self.old.reading self.new.reading lines.old lines.new
+            (record { left = S.left input.old; reads = S.faults input.old; holds = append_known (K.holds out.old.inner.now) out.old.room.now; writes = K.counts out.old.inner.now })
+            (record { left = S.left input.new; reads = S.faults input.new; holds = append_known (K.holds out.new.inner.now) out.new.room.now; writes = K.counts out.new.inner.now }) (round_step result) }
+        ensures goes { Goes self.old.engine self.new.engine self.old.reading self.new.reading lines.old lines.new (round_step result) }
+        ensures same { out.new.inner.ghost_name ≡ out.old.inner.ghost_name }
+    {
+        'round: loop {
+            match self.work_on(lines, input, out) {
+                Step::Went => {}
+                Step::Took => return None,
+                Step::End { end } => return Some(end),
+            }
         }
     }
 }
@@ -197,13 +238,12 @@ fn take_events<S: Source, K: Sink, B: Begun>(
         engine,
         reading,
     };
-    'step: for _ in 0..u64::MAX {
-        match task.work_on(lines, input, out) {
-            Step::Went => {}
-            Step::End { end } => return end,
+    'step: loop {
+        match task.until_taken(lines, input, out) {
+            None => {}
+            Some(end) => return end,
         }
     }
-    End::NoMemory
 }
 
 // Runs the events behind the section. What they write is gathered, and written in large pieces.

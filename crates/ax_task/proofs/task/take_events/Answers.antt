@@ -4,7 +4,7 @@ use Rattle.ax_lang.specs.Shown.{shown_program}
 use Rattle.ax_task.specs.Parse.{first_last}
 use Rattle.ax_task.specs.Passes.{events_at}
 use Rattle.ax_task.specs.Tasks.{From}
-use Rattle.ax_task.proofs.TaskLemmas.{starts, ends_at_once, short_here}
+use Rattle.ax_task.proofs.TaskLemmas.{starts, ends_at_once}
 use Rattle.ax_task.proofs.task.take_events.Goals as goal
 
 pub step-init : goal.step-init
@@ -30,8 +30,8 @@ step-preserved g c =
       outer = record { left = g.S.Source.left c.args.input.now; reads = g.S.Source.faults c.args.input.now; holds = append_known (g.K.Sink.holds out.inner.now) out.room.now; writes = g.K.Sink.counts out.inner.now };
     } in
     record {
-      underway = c.in-Went.ensures.steps c.args.config.now.settings c.args.program from c.step.invariant.underway;
-      name = c.work_on.ensures.same ∙ c.step.invariant.name;
+      underway = c.in-None.ensures.steps c.args.config.now.settings c.args.program from c.step.invariant.underway;
+      name = c.until_taken.ensures.same ∙ c.step.invariant.name;
     }
 
 pub returns-in_default-clause-ended : goal.returns-in_default-clause-ended
@@ -44,24 +44,22 @@ returns-in_default-clause-ended g c =
     } in
     ends_at_once c.args.config.now.settings c.args.program c.args.lines.now from.outer
 
-pub returns-in-End-clause-ended : goal.returns-in-End-clause-ended
-returns-in-End-clause-ended g c =
+pub returns-in-Some-clause-ended : goal.returns-in-Some-clause-ended
+returns-in-Some-clause-ended g c =
     let out = c.args.out.now in
     let from : From = record {
       means = events_at (shown_program c.args.program).fields first_last c.args.lines.now;
       held = c.args.lines.now.held;
       outer = record { left = g.S.Source.left c.args.input.now; reads = g.S.Source.faults c.args.input.now; holds = append_known (g.K.Sink.holds out.inner.now) out.room.now; writes = g.K.Sink.counts out.inner.now };
     } in
-    c.in-End.ensures.steps c.args.config.now.settings c.args.program from c.step.invariant.underway
+    c.in-Some.ensures.steps c.args.config.now.settings c.args.program from c.step.invariant.underway
 
-pub returns-clause-ended : goal.returns-clause-ended
-returns-clause-ended g c =
+pub until_taken-requires : goal.until_taken-requires
+until_taken-requires g c =
     let out = c.args.out.now in
     let from : From = record {
       means = events_at (shown_program c.args.program).fields first_last c.args.lines.now;
       held = c.args.lines.now.held;
       outer = record { left = g.S.Source.left c.args.input.now; reads = g.S.Source.faults c.args.input.now; holds = append_known (g.K.Sink.holds out.inner.now) out.room.now; writes = g.K.Sink.counts out.inner.now };
     } in
-    short_here c.args.config.now.settings c.args.program from c.step.task.engine c.step.task.reading c.step.lines
-    (record { left = g.S.Source.left c.step.input; reads = g.S.Source.faults c.step.input; holds = append_known (g.K.Sink.holds c.step.out.inner.now) c.step.out.room.now; writes = g.K.Sink.counts c.step.out.inner.now })
-    c.step.invariant.underway
+    record { settings = c.args.config.now.settings; program = c.args.program; from = from; underway = c.step.invariant.underway }

@@ -4,6 +4,7 @@ use Rattle.ax_lang.specs.Shown.{shown_program}
 use Rattle.ax_task.specs.Parse.{first_last}
 use Rattle.ax_task.specs.Passes.{events_at}
 use Rattle.ax_task.specs.Tasks.{IsUnderway}
+use Rattle.ax_task.specs.Due.{due}
 use Rattle.ax_task.proofs.task.take_events.Given as goal
 
 abbrev pub invariant-step : goal.invariant-step
@@ -14,3 +15,6 @@ invariant-step g l = record {
       (record { left = g.S.Source.left l.input; reads = g.S.Source.faults l.input; holds = append_known (g.K.Sink.holds l.out.inner.now) l.out.room.now; writes = g.K.Sink.counts l.out.inner.now });
   name : l.out.inner.ghost_name ≡ l.fn.out.inner.ghost_name;
 }
+
+abbrev pub decreases-step : goal.decreases-step
+decreases-step g l = due l.task.reading l.lines

@@ -1,7 +1,10 @@
-use Rattle.std.proofs.Common.{refl}
+use Rattle.std.proofs.Common.{refl, ap}
 use Rattle.std.specs.Io.KnownBytes.{append_known}
 use Rattle.ax_task.proofs.Written.{at_err}
 use Rattle.ax_task.proofs.EngineLemmas.{same_desk, writes_none, unsent_moves, unsent_none, unsent_same, ready_sent, marker_writes_some, marker_moves}
+use Rattle.ax_task.proofs.Lesser.{marker_less, less_as}
+use Rattle.ax_task.specs.declared.engine.Engine.{Engine}
+use Rattle.ax_core.specs.declared.controller.Controller.{Controller}
 use Rattle.ax_task.proofs.engine.Engine.send_marker.Goals as goal
 
 pub returns-in_default-clause-writes : goal.returns-in_default-clause-writes
@@ -39,3 +42,17 @@ returns-clause-writes g c =
     marker_moves c.args.self.now e' (same_desk _ _ refl refl refl) took.sound took.same took.outs took.keys c.in-Some.marker took.event
     c.write_through.new.self (same_desk _ _ wrote.settings wrote.batch wrote.shards) wrote.core
     (append_known (held c.args.out.now.inner.now) c.args.out.now.room.now) (append_known (held c.write_through.new.out.inner.now) c.write_through.new.out.room.now) wrote.wrote
+
+pub returns-in_default-clause-still : goal.returns-in_default-clause-still
+returns-in_default-clause-still g c = λ _.
+    let e = c.args.self.now in
+    let put : Controller → Engine = λ (a : Controller). record e { core = a } in
+    ap put (unsent_same e (record e { core = c.next_marker.new.self }) c.requires.ready c.in_default.ensures.event)
+
+pub returns-clause-falls : goal.returns-clause-falls
+returns-clause-falls g c = λ _.
+    let took = c.in-Some.ensures in
+    let wrote = c.in_ok-write_through.ensures in
+    let e' = record c.args.self.now { core = c.next_marker.new.self } in
+    less_as c.args.self.now e' c.write_through.new.self (same_desk _ _ wrote.settings wrote.batch wrote.shards) wrote.core
+    (marker_less c.args.self.now e' (same_desk _ _ refl refl refl) took.same c.requires.ready c.in-Some.marker took.event)

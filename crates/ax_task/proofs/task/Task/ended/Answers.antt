@@ -1,8 +1,9 @@
-use Rattle.std.proofs.Common.{◌≡◌, None, rules}
-use Rattle.ax_task.proofs.TaskLemmas.{ended_well}
+use Rattle.std.proofs.Common.{◌≡◌, Some}
+use Rattle.ax_task.proofs.Going.{ends_well, cant_be}
 use Rattle.ax_task.proofs.task.Task.ended.Goals as goal
 
-pub returns-then-is_done : goal.returns-then-is_done
-returns-then-is_done c = λ now s p from x.
-    let none : c.args.self.now.reading.next ≡ None = search rules in
-    ended_well s p from c.args.self.now.engine c.args.self.now.reading c.args.lines.now now x c.in-Some.end c.in-Some.is none c.requires.quiet (c.is_done.ensures c.if-is_done.true)
+pub returns-in-Some : goal.returns-in-Some
+returns-in-Some c = ends_well c.args.self.now.engine c.args.self.now.reading c.requires.ready c.requires.quiet c.requires.mails c.requires.waits c.requires.blocked c.in-Some.end c.in-Some.is
+
+pub returns-in-None : goal.returns-in-None
+returns-in-None c = cant_be c.args.self.now.engine c.args.self.now.reading c.requires.ready c.requires.quiet c.requires.mails c.requires.waits c.requires.blocked c.requires.looked c.in-None.is

@@ -1,9 +1,10 @@
-use Rattle.std.proofs.Common.{Bool, sym, subst}
+use Rattle.std.proofs.Common.{◌≡◌, true, false, Bool, rules, refl, sym, subst, arith}
 use Rattle.std.specs.Io.KnownBytes.{append_known}
 use Rattle.ax_task.specs.Tasks.{Outer, HasEnded}
 use Rattle.ax_task.specs.declared.end.End.{End}
 use Rattle.ax_task.proofs.EngineLemmas.{ready_behind}
 use Rattle.ax_task.proofs.TaskLemmas.{went_on, broke_off}
+use Rattle.ax_task.proofs.Going.{goes_as}
 use Rattle.ax_task.proofs.task.Task.work_on.Goals as goal
 
 pub read_on-requires-clause-ready : goal.read_on-requires-clause-ready
@@ -27,7 +28,7 @@ returns-in-Ok-false-clause-steps g c = λ s p from x.
     let now : Outer = record { left = g.S.Source.left c.args.input.now; reads = g.S.Source.faults c.args.input.now; holds = append_known (held c.args.out.now.inner.now) c.args.out.now.room.now; writes = counts c.args.out.now.inner.now } in
     let h = append_known (held c.work.new.out.inner.now) c.work.new.out.room.now in
     let w = counts c.work.new.out.inner.now in
-    c.read_on.ensures h w s p from (went_on s p from c.args.self.now.engine c.args.self.now.reading c.args.lines.now now x c.work.new.self h w c.in-Ok-false.ensures.writes c.in-Ok-false.ensures.counts)
+    c.read_on.ensures.steps h w s p from (went_on s p from c.args.self.now.engine c.args.self.now.reading c.args.lines.now now x c.work.new.self h w c.in-Ok-false.ensures.writes c.in-Ok-false.ensures.counts)
 
 pub returns-in-Err-clause-steps : goal.returns-in-Err-clause-steps
 returns-in-Err-clause-steps g c = λ s p from x.
@@ -38,3 +39,14 @@ returns-in-Err-clause-steps g c = λ s p from x.
     let w = counts c.work.new.out.inner.now in
     subst (λ (e : End). HasEnded s p from (record { left = now.left; reads = now.reads; holds = h; writes = w }) e) (sym c.end_of.ensures)
     (broke_off s p from c.args.self.now.engine c.args.self.now.reading c.args.lines.now now x Bool c.in-Err.fault h w c.in-Err.ensures.part c.in-Err.ensures.counts)
+
+pub returns-in-Ok-true-clause-goes : goal.returns-in-Ok-true-clause-goes
+returns-in-Ok-true-clause-goes g c =
+    let done : c.in-Ok-true.field-0 ≡ true = search rules in
+    (c.in-Ok-true.ensures.falls done, omega arith)
+
+pub returns-in-Ok-false-clause-goes : goal.returns-in-Ok-false-clause-goes
+returns-in-Ok-false-clause-goes g c =
+    let done : c.in-Ok-false.field-0 ≡ false = search rules in
+    goes_as c.args.self.now.engine c.work.new.self c.read_on.new.self.engine c.args.self.now.reading c.args.self.now.reading c.read_on.new.self.reading c.args.lines.now c.read_on.new.lines c.read_on.result
+    (c.in-Ok-false.ensures.still done) refl c.read_on.ensures.goes

@@ -1,0 +1,46 @@
+-- What may still come, and what goes on towards its end.
+use Rattle.std.specs.Prelude.{◌≡◌, ◌<◌, ◌≤◌, ℕ, suc, ◌+◌, [], Option, Some, None, IsSome}
+use Rattle.ax_base.specs.Reader.{Reader}
+use Rattle.ax_input.specs.declared.event.Event.{Event as CodeEvent}
+use Rattle.ax_execution.specs.MachineControls.{MachineControl, in_flight_on}
+use Rattle.ax_execution.specs.ControlsAllowed.{NoneIsIdleOn}
+use Rattle.ax_core.specs.declared.controller.Controller.{Controller}
+use Rattle.ax_core.specs.Sound.{StandsFor, IsSound}
+use Rattle.ax_task.specs.Exchanged.{LessIsLeft}
+use Rattle.ax_task.specs.declared.end.End.{End}
+use Rattle.ax_task.specs.declared.engine.Engine.{Engine}
+use Rattle.ax_task.specs.declared.reading.Reading.{Reading}
+use Rattle.ax_task.specs.declared.task.Step.{Step}
+use Rattle.ax_task.specs.declared.task.Step.TheVariants as step
+
+-- nothing is in flight, no key is idle and no marker is to be sent
+pub record IsFree (a : Controller) : Type 0 where
+  pub control : MachineControl
+  pub sound : IsSound a
+  pub stands : StandsFor a control
+  pub none : in_flight_on control ≡ 0
+  pub unsent : control.unsent ≡ []
+  pub idle : NoneIsIdleOn control
+  pub some : 0 < a.settings.in_flight
+
+-- the event that is held, and what may be read: at most one event for each byte within the limit, and the end
+abbrev pub one_held : Option CodeEvent → ℕ
+one_held None = 0
+one_held (Some e) = 1
+
+abbrev pub unread : Option End → ℕ → ℕ
+unread None limit = suc limit
+unread (Some e) limit = 0
+
+abbrev pub due : Reading → Reader → ℕ
+due r lines = one_held r.next + unread r.found lines.limit
+
+-- an event is held, or an end was found
+abbrev pub IsLooked : Reading → Type 0
+IsLooked r = r.next ≡ None → IsSome r.found
+
+-- what a step comes closer to its end by
+abbrev pub Goes : Engine → Engine → Reading → Reading → Reader → Reader → Step → Type 0
+Goes e e' r r' lines lines' step.Went = LessIsLeft e e' × (due r' lines' ≤ due r lines)
+Goes e e' r r' lines lines' step.Took = due r' lines' < due r lines
+Goes e e' r r' lines lines' (step.End end) = Unit {0}
