@@ -11,9 +11,9 @@ abbrev pub invariant-round : goal.invariant-round
 invariant-round g l = record {
   steps : (s : Settings) (p : Program) (from : From)
       → IsUnderway s p from l.fn.self.engine l.fn.self.reading l.fn.lines
-          (record { left = g.S.Source.left l.fn.input; reads = g.S.Source.faults l.fn.input; holds = append_known (g.K.Sink.holds l.fn.out.inner.now) l.fn.out.room.now; writes = g.K.Sink.counts l.fn.out.inner.now })
+      (record { left = g.S.Source.left l.fn.input; reads = g.S.Source.faults l.fn.input; holds = append_known (g.K.Sink.holds l.fn.out.inner.now) l.fn.out.room.now; writes = g.K.Sink.counts l.fn.out.inner.now })
       → IsUnderway s p from l.self.engine l.self.reading l.lines
-          (record { left = g.S.Source.left l.input; reads = g.S.Source.faults l.input; holds = append_known (g.K.Sink.holds l.out.inner.now) l.out.room.now; writes = g.K.Sink.counts l.out.inner.now });
+      (record { left = g.S.Source.left l.input; reads = g.S.Source.faults l.input; holds = append_known (g.K.Sink.holds l.out.inner.now) l.out.room.now; writes = g.K.Sink.counts l.out.inner.now });
   due : due l.self.reading l.lines ≤ due l.fn.self.reading l.fn.lines;
   name : l.out.inner.ghost_name ≡ l.fn.out.inner.ghost_name;
 }
