@@ -1,5 +1,5 @@
 -- A task comes closer to its end with each step, and where nothing can be done it has ended.
-use Rattle.std.proofs.Common.{◌≡◌, ◌<◌, ◌≤◌, ℕ, suc, ◌+◌, false, Option, Some, None, IsSome, IfSome, refl, sym, ap, ap₂, ◌∙◌, subst, arith}
+use Rattle.std.proofs.Common.{◌≡◌, ◌<◌, ◌≤◌, ℕ, false, Option, Some, None, IsSome, IfSome, refl, sym, ap, ◌∙◌, subst, arith}
 use Rattle.ax_base.specs.Reader.{Reader}
 use Rattle.ax_input.specs.declared.event.Event.{Event as CodeEvent}
 use Rattle.ax_execution.specs.MachineControls.{MachineControl, control_of_machine, in_flight_on}
@@ -9,7 +9,7 @@ use Rattle.ax_core.specs.declared.controller.Controller.{Controller}
 use Rattle.ax_core.specs.May.{has_mail}
 use Rattle.ax_core.specs.Sound.{StandsFor}
 use Rattle.ax_task.specs.Engines.{IsReady, IsQuiet, MovesOn}
-use Rattle.ax_task.specs.Exchanged.{NothingWaits, LessIsLeft}
+use Rattle.ax_task.specs.Exchanged.{NothingWaits}
 use Rattle.ax_task.specs.Due.{IsFree, one_held, unread, due, IsLooked, Goes}
 use Rattle.ax_task.specs.Tasks.{Outer, From, IsUnderway, IsOnItsWay, MayRead, EndsWell}
 use Rattle.ax_task.specs.declared.end.End.{End}

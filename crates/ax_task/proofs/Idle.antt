@@ -1,10 +1,9 @@
 -- Where no request waits, nothing is out, no mail waits, no key may fire and no marker is to be sent, nothing is in flight.
-use Rattle.std.proofs.Common.{◌≡◌, ◌<◌, ◌≤◌, ℕ, zero, suc, ◌+◌, List, [], ◌∷◌, ◌++◌, length, length-append, get_or, Bool, true, false, not, Option, Some, None, refl, sym, ap, ap₂, ◌∙◌, subst, arith}
+use Rattle.std.proofs.Common.{◌≡◌, ◌<◌, ◌≤◌, ℕ, suc, ◌+◌, List, [], ◌∷◌, ◌++◌, length, length-append, get_or, false, not, Option, Some, None, refl, sym, ap, ap₂, ◌∙◌, subst, arith}
 use Rattle.std.proofs.lemmas.Bool.{cond-true, cond-false}
 use Rattle.std.specs.Str.{bytes_eq}
 use Rattle.std.specs.List.{list_any}
 use Rattle.ax_text.specs.declared.vocabulary.Request.{Request}
-use Rattle.ax_text.specs.declared.vocabulary.Answer.{Answer}
 use Rattle.ax_text.specs.Controls.{Control, Done, Wait, Arms, slots, request_at}
 use Rattle.ax_text.specs.Prints.{has}
 use Rattle.ax_machine.specs.Entries.{Key, Entry}
@@ -12,9 +11,8 @@ use Rattle.ax_machine.specs.Events.{Event}
 use Rattle.ax_lang.specs.declared.program.Program.{Program}
 use Rattle.ax_lang.specs.Shown.{shown_program}
 use Rattle.ax_buffer.specs.declared.items.Item.{Item}
-use Rattle.ax_buffer.specs.Buffer.{queue_of, total as total_of}
+use Rattle.ax_buffer.specs.Buffer.{total as total_of}
 use Rattle.ax_mailbox.specs.declared.mail.Mail.{Mail}
-use Rattle.ax_execution.specs.Sums.{total}
 use Rattle.ax_execution.specs.Contexts.{Running, Stage, Unbegun, Begun, Context, is_idle_with}
 use Rattle.ax_execution.specs.Origins.{first}
 use Rattle.ax_execution.specs.Machine.{Machine, Happening, Admit, Close, Fire, Start, Serve, Deliver, Send, IsAtRest, IsWork}
@@ -32,11 +30,9 @@ use Rattle.ax_execution.proofs.Projected.{first_fits}
 use Rattle.ax_execution.proofs.ReachedOrderly.{reached_orderly}
 use Rattle.ax_execution.proofs.Upto.{by_cases}
 use Rattle.ax_core.specs.declared.settings.Settings.{Settings}
-use Rattle.ax_core.specs.declared.record.Name.{Name}
 use Rattle.ax_core.specs.declared.controller.Controller.{Controller}
-use Rattle.ax_core.specs.Flow.{out_of}
 use Rattle.ax_core.specs.May.{is_empty, has_mail}
-use Rattle.ax_core.specs.Sound.{rules_of, StandsFor}
+use Rattle.ax_core.specs.Sound.{rules_of}
 use Rattle.ax_core.specs.Events.{MayFireOn, names_in}
 use Rattle.ax_core.proofs.Sends.{accepted}
 use Rattle.ax_task.specs.Serving.{Content}

@@ -1,5 +1,5 @@
 -- Less is left to do behind each thing that the engine does between two events.
-use Rattle.std.proofs.Common.{◌≡◌, ◌<◌, ℕ, Option, Some, None, refl, sym, ap, ◌∙◌, subst}
+use Rattle.std.proofs.Common.{◌≡◌, ◌<◌, sym, subst}
 use Rattle.ax_time.specs.declared.epoch.Marker.{Marker}
 use Rattle.ax_execution.specs.MachineControls.{MachineControl, control_of_machine}
 use Rattle.ax_core.specs.declared.settings.Settings.{Settings}

@@ -4,7 +4,7 @@ ghost use Rattle.std.specs.Io.KnownBytes.{append_known};
 ghost use Rattle.ax_base.specs.Outside.{OwnCounts};
 ghost use Rattle.ax_machine.specs.Events.{Mark};
 ghost use Rattle.ax_input.specs.Shown.{shown_event};
-ghost use Rattle.ax_execution.specs.MachineControls.{MachineControl, in_flight_on};
+ghost use Rattle.ax_execution.specs.MachineControls.{MachineControl};
 ghost use Rattle.ax_execution.specs.ControlsAllowed.{FirstIsFinishedOn};
 ghost use Rattle.ax_core.specs.May.{may_fire, may_close, has_mail};
 ghost use Rattle.ax_core.specs.Sound.{InRange, StandsFor};
@@ -248,12 +248,5 @@ impl Engine {
         } else {
             Ok(())
         }
-    }
-
-    /// Whether nothing is in flight.
-    pub fn is_done(&self) -> bool
-        ensures { result ≡ true → (m : MachineControl) → StandsFor self.now.core m → in_flight_on m ≡ 0 }
-    {
-        self.core.in_flight() == 0
     }
 }

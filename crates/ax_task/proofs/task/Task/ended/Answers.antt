@@ -1,4 +1,3 @@
-use Rattle.std.proofs.Common.{◌≡◌, Some}
 use Rattle.ax_task.proofs.Going.{ends_well, cant_be}
 use Rattle.ax_task.proofs.task.Task.ended.Goals as goal
 
