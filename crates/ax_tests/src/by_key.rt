@@ -17,7 +17,7 @@ fn key_of(line: &str) -> &str {
     }
 }
 
-fn placed<'a>(alloc: Global, text: &'a str) -> Result<Vec<Placed<'a>>, AllocError> {
+fn lines_of<'a>(alloc: Global, text: &'a str) -> Result<Vec<Placed<'a>>, AllocError> {
     let mut lines = Vec::new(alloc);
     let mut changes = 0usize;
     let mut in_marker = false;
@@ -35,7 +35,7 @@ fn placed<'a>(alloc: Global, text: &'a str) -> Result<Vec<Placed<'a>>, AllocErro
 /// The lines of an output, sorted by key between two markers: two outputs give the same where each key has the same lines in
 /// the same order, and each marker stands behind the same lines of each key.
 pub fn by_key(alloc: Global, output: &[u8]) -> Result<String, AllocError> {
-    let mut lines = placed(alloc, str::from_utf8(output).unwrap_or(""))?;
+    let mut lines = lines_of(alloc, str::from_utf8(output).unwrap_or(""))?;
     lines.sort_by_key(|placed| (placed.changes, placed.key))?;
     let mut sorted = String::new(alloc);
     for placed in &lines {
