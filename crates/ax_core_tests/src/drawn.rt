@@ -181,18 +181,20 @@ fn finish(rt: &impl Abort, alloc: Global, hand: &mut Hand, written: &mut Written
     }
 }
 
-// The plain thread takes an event.
+// The plain thread takes the event, if there is one.
 fn take_plain(
     rt: &impl Abort,
     thread: &mut PlainThread,
     program: &Program,
-    event: &Event,
+    event: &Option<Event>,
     out: &mut SureSink,
 )
     requires { ThreadFits (shown_kinds program.now) thread.old }
     ensures { ThreadFits (shown_kinds program.now) thread.new }
 {
-    thread.take(program, 128, event, out).expect(rt, "memory");
+    if let Some(event) = event {
+        thread.take(program, 128, event, out).expect(rt, "memory");
+    }
 }
 
 // The lines of the plain thread, by their keys.
@@ -230,9 +232,8 @@ fn differs(
     let mut draw = seed;
     for time in 0..calls {
         draw = next_draw(draw);
-        if let Some(event) = drawn_call(rt, alloc, &mut hand, draw, time, &mut written) {
-            take_plain(rt, &mut thread, &plain, &event, &mut out);
-        }
+        let event = drawn_call(rt, alloc, &mut hand, draw, time, &mut written);
+        take_plain(rt, &mut thread, &plain, &event, &mut out);
     }
     finish(rt, alloc, &mut hand, &mut written, 2000);
     let expected = sorted_out(rt, alloc, &out);
