@@ -3,8 +3,6 @@
 
 #[cfg(test)]
 mod by_hand;
-#[cfg(test)]
-mod drawn;
 pub mod hand;
 #[cfg(test)]
 mod programs;
