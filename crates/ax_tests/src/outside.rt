@@ -258,3 +258,33 @@ fn a_row_overtakes_another(rt: HostRuntime) -> Result<(), Fail> {
     }
     Ok(())
 }
+
+// Seven rows of five keys, and under which words which lines come. Over eight shards those of f, h and b have one, a and g each
+// their own.
+const OVERTAKING: &str = "r a 1 5\nr b 2 1\nr f 3 1\nr g 4 1\nr h 5 1\nr a 5 7\nr b 6 1\n";
+
+// The words, and what is written under them.
+const OVERTAKEN: [(&str, &str, &str); 7] = [
+    ("--batch=1000", "--in-flight=1", "o a 5\no b 1\no f 1\no g 1\no h 1\no a 12\no b 2\n"),
+    ("--batch=1000", "--in-flight=2", "o b 1\no a 5\no f 1\no g 1\no h 1\no a 12\no b 2\n"),
+    ("--batch=1000", "--in-flight=6000", "o b 1\no f 1\no h 1\no g 1\no a 5\no b 2\no a 12\n"),
+    ("--batch=1", "--in-flight=6000", "o g 1\no a 5\no b 1\no a 12\no f 1\no h 1\no b 2\n"),
+    ("--batch=2", "--in-flight=6000", "o b 1\no g 1\no a 5\no f 1\no h 1\no a 12\no b 2\n"),
+    ("--shards=1", "--in-flight=6000", "o a 5\no b 1\no f 1\no g 1\no h 1\no a 12\no b 2\n"),
+    ("--shards=2", "--batch=1", "o a 5\no a 12\no b 1\no f 1\no g 1\no h 1\no b 2\n"),
+];
+
+#[test]
+fn options_tell_which_key_goes_first(rt: HostRuntime) -> Result<(), Fail> {
+    let alloc = rt.alloc();
+    for (first, second, out) in OVERTAKEN {
+        let events = OVERTAKING.as_bytes();
+        let mut source = SureSource::new(joined(alloc, &[COUNTER.as_bytes(), events])?);
+        let mut sink = SureSink::new(alloc);
+        let mut err = SureSink::new(alloc);
+        let status = run_alone(alloc, &[first, second], &mut source, &mut sink, &mut err);
+        assert_eq!(rt; status, Status::Ok, "{first} {second}");
+        assert_eq!(rt; sink.bytes(), out.as_bytes(), "{first} {second}");
+    }
+    Ok(())
+}
