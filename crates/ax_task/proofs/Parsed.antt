@@ -1,5 +1,5 @@
 -- What an input says is a run, and what is written for it has its own text.
-use Rattle.std.proofs.Common.{◌≡◌, ℕ, ◌+◌, ◌≤◌, ◌<◌, ◌^◌, ℤ, List, [], ◌∷◌, length, refl, subst, Bool, true, false, if◌then◌else◌}
+use Rattle.std.proofs.Common.{◌≡◌, ℕ, ◌+◌, ◌≤◌, ◌<◌, ◌^◌, ℤ, List, [], ◌∷◌, length, refl, sym, subst, Bool, true, false, if◌then◌else◌}
 use Rattle.std.specs.List.{list_all, AllByRecursion}
 use Rattle.std.proofs.lemmas.Bool.{and_from}
 use Rattle.ax_base.specs.Pieces.{Piece, Whole, TooLong, TooMuch}
@@ -7,6 +7,9 @@ use Rattle.ax_text.specs.Programs.{Program}
 use Rattle.ax_text.specs.Valid.{IsValid}
 use Rattle.ax_machine.specs.Events.{Event}
 use Rattle.ax_machine.specs.Entries.{Entry, text_of}
+use Rattle.ax_machine.specs.Sync.{sync}
+use Rattle.ax_machine.proofs.FrontLemmas.{whole_so_far}
+use Rattle.ax_machine.proofs.LawfulLemmas.{lawful_itself}
 use Rattle.ax_lang.specs.Programs.{Reading, program_of}
 use Rattle.ax_lang.specs.Programs as program
 use Rattle.ax_lang.proofs.AcceptedLemmas.{accepted_valid}
@@ -89,3 +92,12 @@ pub whole_tell : (input other : List ℕ) → TextsTell MayEndWith input other
 whole_tell input other m n serial mode one two a b short same =
     determined one two (whole_spelled m serial (parse input) one (section_runs (section_in input)) a short)
     (whole_spelled n mode (parse other) two (section_runs (section_in other)) b (short_too one two short same)) same
+
+-- what the plain thread writes may be written
+pub plain_whole : (m : ℕ) (serial : Bool) (bytes : List ℕ) (p : Program) (s : Stream) → parse bytes ≡ Runs p s → MayEndWith m serial (parse bytes) (sync m p s.events).entries
+plain_whole m serial bytes p s e = subst (λ r. MayEndWith m serial r (sync m p s.events).entries) (sym e) (lawful_itself serial (sync m p s.events).entries)
+
+pub plain_so_far : (m : ℕ) (serial : Bool) (bytes : List ℕ) (p : Program) (s : Stream) → parse bytes ≡ Runs p s → MayHaveWritten m serial (parse bytes) (sync m p s.events).entries
+plain_so_far m serial bytes p s e =
+    subst (λ r. MayHaveWritten m serial r (sync m p s.events).entries) (sym e)
+    (whole_so_far serial (sync m p s.events).entries (sync m p s.events).entries (lawful_itself serial (sync m p s.events).entries))

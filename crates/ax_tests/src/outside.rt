@@ -265,13 +265,41 @@ const OVERTAKING: &str = "r a 1 5\nr b 2 1\nr f 3 1\nr g 4 1\nr h 5 1\nr a 5 7\n
 
 // The words, and what is written under them.
 const OVERTAKEN: [(&str, &str, &str); 7] = [
-    ("--batch=1000", "--in-flight=1", "o a 5\no b 1\no f 1\no g 1\no h 1\no a 12\no b 2\n"),
-    ("--batch=1000", "--in-flight=2", "o b 1\no a 5\no f 1\no g 1\no h 1\no a 12\no b 2\n"),
-    ("--batch=1000", "--in-flight=6000", "o b 1\no f 1\no h 1\no g 1\no a 5\no b 2\no a 12\n"),
-    ("--batch=1", "--in-flight=6000", "o g 1\no a 5\no b 1\no a 12\no f 1\no h 1\no b 2\n"),
-    ("--batch=2", "--in-flight=6000", "o b 1\no g 1\no a 5\no f 1\no h 1\no a 12\no b 2\n"),
-    ("--shards=1", "--in-flight=6000", "o a 5\no b 1\no f 1\no g 1\no h 1\no a 12\no b 2\n"),
-    ("--shards=2", "--batch=1", "o a 5\no a 12\no b 1\no f 1\no g 1\no h 1\no b 2\n"),
+    (
+        "--batch=1000",
+        "--in-flight=1",
+        "o a 5\no b 1\no f 1\no g 1\no h 1\no a 12\no b 2\n",
+    ),
+    (
+        "--batch=1000",
+        "--in-flight=2",
+        "o b 1\no a 5\no f 1\no g 1\no h 1\no a 12\no b 2\n",
+    ),
+    (
+        "--batch=1000",
+        "--in-flight=6000",
+        "o b 1\no f 1\no h 1\no g 1\no a 5\no b 2\no a 12\n",
+    ),
+    (
+        "--batch=1",
+        "--in-flight=6000",
+        "o g 1\no a 5\no b 1\no a 12\no f 1\no h 1\no b 2\n",
+    ),
+    (
+        "--batch=2",
+        "--in-flight=6000",
+        "o b 1\no g 1\no a 5\no f 1\no h 1\no a 12\no b 2\n",
+    ),
+    (
+        "--shards=1",
+        "--in-flight=6000",
+        "o a 5\no b 1\no f 1\no g 1\no h 1\no a 12\no b 2\n",
+    ),
+    (
+        "--shards=2",
+        "--batch=1",
+        "o a 5\no a 12\no b 1\no f 1\no g 1\no h 1\no b 2\n",
+    ),
 ];
 
 #[test]
