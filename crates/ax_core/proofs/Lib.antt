@@ -29,6 +29,7 @@ pub mod HandLemmas
 pub mod LeaveLemmas
 pub mod MarkLemmas
 pub mod Serves
+pub mod Unserved
 pub mod StartLemmas
 pub mod TimerLemmas
 pub mod Marking

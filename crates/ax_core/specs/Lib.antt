@@ -14,3 +14,4 @@ pub mod Firings
 pub mod Closings
 pub mod Admissions
 pub mod Order
+pub mod Requests

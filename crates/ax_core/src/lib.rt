@@ -8,6 +8,7 @@
 //! - `effects`: `Fired`, `Ran` and `Effects`, what a callback did.
 //! - `controller`: `Controller`, with what can be asked of it.
 //! - `admission`, `closing`, `firing`, `callbacks` and `batches`: its calls.
+//! - `laws`: what holds of a controller between its calls.
 //!
 //! Private modules: `record` has what is held of a context, and `rooms` what a controller takes when it is made.
 #![tactic(auto)]
@@ -19,6 +20,7 @@ mod closing;
 pub mod controller;
 pub mod effects;
 mod firing;
+pub mod laws;
 mod record;
 mod rooms;
 pub mod settings;

@@ -1,0 +1,13 @@
+use Rattle.ax_core.proofs.Unserved.{unserved, queued_or_out, stands_there, allowed_where, requests_once}
+use Rattle.ax_core.proofs.laws.requests_stand_until_served.Goals as goal
+
+pub returns-clause-served : goal.returns-clause-served
+returns-clause-served c m key slot x =
+    (queued_or_out c.args.controller.now m c.requires.sound.flow x key slot, allowed_where c.args.controller.now m c.requires.sound.flow x c.numbers_law.ensures key slot)
+
+pub returns-clause-unserved : goal.returns-clause-unserved
+returns-clause-unserved c m shard r x =
+    (unserved c.args.controller.now m c.requires.sound.flow x shard r, stands_there c.args.controller.now m c.requires.sound.flow x shard r)
+
+pub returns-clause-once : goal.returns-clause-once
+returns-clause-once c = requests_once c.args.controller.now c.requires.sound.flow c.numbers_law.ensures

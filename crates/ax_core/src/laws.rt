@@ -1,0 +1,26 @@
+//! What holds of a controller between its calls. Each is the contract of a function that does nothing, which a caller's proof may cite.
+ghost use Rattle.std.specs.Prelude.{◌≡◌, ◌↔◌, ℕ};
+ghost use Rattle.std.specs.List.{Contains, IsDistinct};
+ghost use Rattle.ax_machine.specs.Entries.{Key};
+ghost use Rattle.ax_execution.specs.Machine.{Serve};
+ghost use Rattle.ax_execution.specs.MachineControls.{MachineControl};
+ghost use Rattle.ax_execution.specs.ControlsAllowed.{AllowedOn};
+ghost use Rattle.ax_core.specs.Sound.{rules_of, StandsFor, IsSound};
+ghost use Rattle.ax_core.specs.Order.{Asked};
+ghost use Rattle.ax_core.specs.Requests.{requests_in, all_requests, same_asked, IsQueuedOrOut, IsUnserved};
+
+use crate::controller::Controller;
+use ax_context::laws::numbers_law;
+
+/// A request may be served exactly where it waits in the queue of its key's shard or is out of it: whatever was asked and wasn't
+/// served stands there, nothing else does, and no request stands twice in all queues and batches together.
+pub fn requests_stand_until_served(controller: &Controller)
+    requires sound { IsSound controller.now }
+    ensures served { (m : MachineControl) (key : Key) (slot : ℕ) → StandsFor controller.now m
+        → AllowedOn (rules_of controller.now.settings) (Serve key slot) m ↔ IsQueuedOrOut controller.now key slot (m.controls key).owner }
+    ensures unserved { (m : MachineControl) (shard : ℕ) (r : Asked) → StandsFor controller.now m
+        → Contains (requests_in controller.now shard) r ↔ IsUnserved controller.now m shard r }
+    ensures once { IsDistinct same_asked (all_requests controller.now) }
+{
+    numbers_law(&controller.contexts);
+}
