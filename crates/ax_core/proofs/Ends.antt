@@ -24,7 +24,7 @@ use Rattle.ax_core.specs.declared.effects.Ran.{Ran}
 use Rattle.ax_core.specs.declared.controller.Controller.{Controller}
 use Rattle.ax_core.specs.Flow.{shard_of}
 use Rattle.ax_core.specs.Callbacks.{HasBegun, HasResumed, items_for, IsHeld, IsQueued, ended, all_left, AllMayLeave, row_epochs, GoesOn}
-use Rattle.ax_core.specs.Calls.{IsDone, CallEnds, MayEnd, Started, Replied}
+use Rattle.ax_core.specs.Calls.{Leaves, IsDone, CallEnds, MayEnd, Started, Replied}
 use Rattle.ax_core.proofs.GetLemmas.{if_ok}
 use Rattle.ax_core.proofs.TimerLemmas.{puts_at}
 
@@ -38,11 +38,6 @@ held_has P o h e x = subst (λ (q : Option (Held Record)). IsSomeAnd q P) (sym e
 
 pub has_at : (P : Held Record → Type 0) (o : Option (Held Record)) (h : Held Record) → o ≡ Some h → IsSomeAnd o P → P h
 has_at P o h e x = subst (λ (q : Option (Held Record)). IsSomeAnd q P) e x
-
--- what wasn't the last reference
-pub live_is : (r : Released Record) → ((payload : Record) (epoch number : ℕ) → r ≡ released.Gone payload epoch number → ⊥) → r ≡ released.Live
-live_is released.Live f = refl
-live_is (released.Gone payload epoch number) f = absurd (f payload epoch number refl)
 
 -- its timers are set, and its requests asked
 pub record Asks (a : Controller) (id : Id) (t : Turn) (key : Key) (timers : List Timer) (contexts : Slots Record) (buffer : Buffer) (h : Held Record) : Type 0 where
@@ -73,14 +68,6 @@ asks_here a id t key got ops timers contexts buffer shard may is_got copied all 
             };
           },
         )
-
--- a reference is given up
-pub record Leaves (contexts s : Slots Record) (id : Id) (result : Released Record) : Type 0 where
-  pub answer : Has contexts id (λ c. Answers c result)
-  pub counted : Has contexts id (λ c. at s id ≡ left c result)
-  pub others : OthersStay contexts s id
-  pub len : live_count s + gone_count result ≡ live_count contexts
-  pub limit : s.limit ≡ contexts.limit
 
 module _ (a : Controller) (id : Id) (t : Turn) (key : Key) (timers : List Timer) (contexts : Slots Record) (buffer : Buffer) (h : Held Record) (asks : Asks a id t key timers contexts buffer h) (s : Slots Record) where
   -- with the references of its requests

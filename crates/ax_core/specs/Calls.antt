@@ -1,12 +1,16 @@
 -- A callback of a context, from its start to its end.
 use Rattle.std.specs.Prelude.{◌≡◌, ◌≤◌, ◌<◌, ◌+◌, ◌-◌, ℕ, Bool, true, false, length, Option, Some, None}
 use Rattle.ax_text.specs.declared.vocabulary.Answer.{Answer}
+use Rattle.ax_text.specs.declared.vocabulary.Handler.{Handler}
 use Rattle.ax_text.specs.Run.{times_after}
 use Rattle.ax_future.specs.declared.callback.Turn.{Turn}
 use Rattle.ax_time.specs.Timers.{PutsTimes, times_of}
 use Rattle.ax_buffer.specs.Buffer.{total}
 use Rattle.ax_context.specs.declared.id.Id.{Id}
 use Rattle.ax_context.specs.declared.contexts.Context.{Context as Held}
+use Rattle.ax_context.specs.declared.contexts.Released.{Released}
+use Rattle.ax_context.specs.declared.contexts.Released.TheVariants as released
+use Rattle.ax_context.specs.Released.{Answers, left, gone_count}
 use Rattle.ax_context.specs.Slots.{Slots, at, Has, IsLive, live_count, OthersStay}
 use Rattle.ax_account.specs.Accounts.{owner_of, waiting_of}
 use Rattle.ax_core.specs.declared.record.Record.{Record}
@@ -23,6 +27,26 @@ pub record IsDone (a b : Controller) (id : Id) (h : Held Record) (t : Turn) : Ty
   pub held : IsHeld a.contexts b.contexts id (length t.asks)
   pub queued : IsQueued a.buffer b.buffer (shard_of a.settings h.payload.facts.key) (items_for id h.payload.facts.key t.asks)
   pub same : b ≡ record a { contexts = b.contexts; buffer = b.buffer; timers = b.timers }
+
+-- a reference is given up
+pub record Leaves (old new : Slots Record) (id : Id) (result : Released Record) : Type 0 where
+  pub answer : Has old id (λ c. Answers c result)
+  pub counted : Has old id (λ c. at new id ≡ left c result)
+  pub others : OthersStay old new id
+  pub len : live_count new + gone_count result ≡ live_count old
+  pub limit : new.limit ≡ old.limit
+
+-- the last reference is given up, of a context with this handler and epoch
+pub record IsLast (old new : Slots Record) (id : Id) (handler : Handler) (epoch : ℕ) : Type 0 where
+  pub payload : Record
+  pub number : ℕ
+  pub handles : handler ≡ payload.handler
+  pub leaves : Leaves old new id (released.Gone payload epoch number)
+
+-- a reference is given up: one of several, or the last
+abbrev pub LeftBy : Slots Record → Slots Record → Id → Option (Handler × ℕ) → Type 0
+LeftBy old new id None = Leaves old new id released.Live
+LeftBy old new id (Some (handler, epoch)) = IsLast old new id handler epoch
 
 -- its reference is given up, and its context waits on
 pub record WaitsOn (a b : Controller) (id : Id) (h : Held Record) : Type 0 where

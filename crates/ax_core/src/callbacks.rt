@@ -15,7 +15,7 @@ ghost use Rattle.ax_core.specs.Sound.{StandsFor, IsSound};
 ghost use Rattle.ax_core.specs.Events.{SameRules, KeysStay, Runs, MayCallOn};
 ghost use Rattle.ax_core.specs.Order.{RunsFirst, idle_in};
 ghost use Rattle.ax_core.specs.Callbacks.{Begins, WaitsAt, ResumedAt, HasBegun, HasResumed, item_for, items_for, IsHeld, IsQueued, ending, behind_marks, ended, all_left, AllMayLeave, row_epochs, with_start, waits_next, HandsOver, GoesOn};
-ghost use Rattle.ax_core.specs.Calls.{CallEnds, IsReady, MayStart, MayReply, Started, Replied};
+ghost use Rattle.ax_core.specs.Calls.{LeftBy, CallEnds, IsReady, MayStart, MayReply, Started, Replied};
 
 use crate::controller::Controller;
 use crate::effects::{Effects, Fired, Ran};
@@ -125,7 +125,7 @@ impl Controller {
             &key,
             asks,
         )?;
-        let Released::Gone { payload, epoch, .. } = self.contexts.release(id) else {
+        let Some((handler, epoch)) = give_up(&mut self.contexts, id) else {
             return Ok(Effects {
                 key,
                 ran,
@@ -134,7 +134,7 @@ impl Controller {
                 fired: None,
             });
         };
-        leave_row(&mut self.epochs, payload.handler, epoch);
+        leave_row(&mut self.epochs, handler, epoch);
         let fired = self.go_on(&key)?;
         Ok(Effects {
             key,
@@ -159,6 +159,7 @@ impl Controller {
     }
 
     // The same, and the mark in front fires, where one is there.
+    #[inline(never)]
     fn go_on(&mut self, key: &Key) -> Result<Option<Fired>, NoMemory>
         requires owner { IsSome (owner_of self.old.accounts key.now) }
         requires left { AllMayLeave (ended (times_of self.old.timers key.now) (waiting_of self.old.accounts key.now)) self.old.epochs }
@@ -197,11 +198,10 @@ fn resume(
     requires { WaitsAt program.now record.old.machine slot }
     ensures { IfOk result (λ turn. ResumedAt program.now record.old record.new record.old.machine slot answer turn) }
 {
-    let Some(mut machine) = record.machine.take() else {
+    let Some(machine) = &mut record.machine else {
         unreachable!()
     };
     let turn = machine.resume(program, &record.facts, slot, answer)?;
-    record.machine = Some(machine);
     Ok(turn)
 }
 
@@ -237,6 +237,7 @@ fn resume_at(
 }
 
 // Sets or takes off a timer of the key.
+#[inline(never)]
 fn set_timer(timers: &mut Timers, key: &Key, op: &TimerOp) -> Result<(), NoMemory>
     ensures times { OnOk result (PutsTimes timers.old timers.new key.now (time_after op.now (times_of timers.old key.now))) }
 {
@@ -306,6 +307,18 @@ fn ask_all(
         ask_one(alloc, contexts, buffer, shard, id, key, ask)?;
     }
     Ok(())
+}
+
+// A reference is given up. Where that was the last, the handler and the epoch of its context.
+#[inline(never)]
+fn give_up(contexts: &mut Contexts<Record>, id: Id) -> Option<(Handler, u64)>
+    requires { IsLive contexts.old id }
+    ensures { LeftBy contexts.old contexts.new id result }
+{
+    match contexts.release(id) {
+        Released::Live => None,
+        Released::Gone { payload, epoch, .. } => Some((payload.handler, epoch)),
+    }
 }
 
 // A timer of the key is at or below a watermark.

@@ -66,6 +66,7 @@ impl Controller {
     }
 
     // The mark in front of a key fires the key's least timer.
+    #[inline(never)]
     pub(crate) fn fire(&mut self, key: Key) -> Result<Fired, NoMemory>
         requires owner { owner_of self.old.accounts key ≡ None }
         requires mark { mark_may_fire (next_of (waiting_of self.old.accounts key)) ≡ true }

@@ -6,7 +6,9 @@ ghost use Rattle.std.specs.Cmp.{partial_equiv_from_equiv};
 ghost use Rattle.std.specs.Cmp.Lexicographic.{pointwise, slice_cmp, nat_list_eq_equiv, nat_list_cmp_total, texts_ties, texts_po};
 ghost use Rattle.ax_keys.specs.Keys.{is_key, is_key_byte};
 
+use ax_base::heads::note_bytes;
 use ax_base::{Duplicate, ListOf, NoMemory, cmp_by_heads, head_of};
+use smallvec::SmallVec;
 use std::alloc::Global;
 use std::cmp::Ordering;
 use std::marker::Model;
@@ -17,7 +19,8 @@ use std::marker::Model;
 pub struct Key {
     // The first eight bytes as one number, by which most keys are told apart with no look at the bytes.
     head: u64,
-    bytes: Vec<u8>,
+    // A key of up to 16 bytes lies in the value itself.
+    bytes: SmallVec<u8, 16>,
 }
 
 /// A list of keys.
@@ -71,7 +74,7 @@ impl Key {
         if !is_key(word) {
             return Ok(None);
         }
-        match Vec::from_slice(alloc, word) {
+        match SmallVec::from_slice(alloc, word) {
             Ok(bytes) => Ok(Some(Key {
                 head: head_of(word),
                 bytes,
@@ -91,7 +94,7 @@ impl Key {
 
 impl Duplicate for Key {
     fn copy(&self, alloc: Global) -> Result<Key, NoMemory> {
-        match Vec::from_slice(alloc, self.as_bytes()) {
+        match SmallVec::from_slice(alloc, self.as_bytes()) {
             Ok(bytes) => Ok(Key {
                 head: self.head,
                 bytes,
@@ -115,6 +118,14 @@ impl Eq for Key {
     ghost laws = { nat_list_eq_equiv };
 }
 
+// How two keys compare by their bytes.
+#[inline(never)]
+fn cmp_bytes(a: &Key, b: &Key) -> Ordering
+    ensures { result ≡ slice_cmp nat_cmp a.now b.now }
+{
+    cmp_by_heads(a.head, a.bytes.as_slice(), b.head, b.bytes.as_slice())
+}
+
 impl PartialOrd for Key {
     ghost partial_cmp = { λ a b. Some (slice_cmp nat_cmp a b) };
 
@@ -134,7 +145,16 @@ impl Ord for Key {
 
     ghost matches_eq = { texts_ties };
 
+    #[inline(always)]
     fn cmp(&self, other: &Key) -> Ordering {
-        cmp_by_heads(self.head, &self.bytes, other.head, &other.bytes)
+        note_bytes(self.bytes.as_slice());
+        note_bytes(other.bytes.as_slice());
+        if self.head < other.head {
+            return Ordering::Less;
+        }
+        if other.head < self.head {
+            return Ordering::Greater;
+        }
+        cmp_bytes(self, other)
     }
 }

@@ -1,0 +1,16 @@
+use Rattle.std.proofs.Common.{refl}
+use Rattle.ax_core.proofs.callbacks.give_up.Goals as goal
+
+pub returns-in-Gone : goal.returns-in-Gone
+returns-in-Gone c = record {
+  payload = c.in-Gone.payload;
+  number = c.in-Gone.number;
+  handles = refl;
+  leaves = record {
+    answer = c.in-Gone.ensures.answer;
+    counted = c.in-Gone.ensures.counted;
+    others = c.in-Gone.ensures.others;
+    len = c.in-Gone.ensures.len;
+    limit = c.in-Gone.ensures.limit;
+  };
+}
