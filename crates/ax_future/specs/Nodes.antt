@@ -1,5 +1,5 @@
 -- What the code's nodes stand for.
-use Rattle.std.specs.Prelude.{ℕ, max, List, [], ◌∷◌, ◌++◌, drop}
+use Rattle.std.specs.Prelude.{ℕ, max, List, [], ◌∷◌, ◌++◌, drop, ◌-◌, length, slice_get, Option, Some, None}
 use Rattle.ax_text.specs.Run.{After}
 use Rattle.ax_text.specs.Run as run
 use Rattle.ax_text.specs.Controls.{Frame, Cursor, Next, Control}
@@ -37,6 +37,20 @@ abbrev pub control_in : Program → Node → Control
 control_in p node.Done = control.Done
 control_in p (node.Wait slot request next cursor) = control.Wait slot request (next_in p next) (cursor_in p cursor.items)
 control_in p (node.Arms' a one b two cursor) = control.Arms (control_in p one) (control_in p two) (cursor_in p cursor.items)
+
+-- what stands behind what is in front
+abbrev pub behind : Cursor → Cursor
+behind [] = []
+behind (x ∷ k) = k
+
+abbrev pub rest_in : Option CodeFrame → Option ℕ
+rest_in None = None
+rest_in (Some (frame.Rest place)) = Some place
+rest_in (Some (frame.Turns turn turns at body)) = None
+
+-- the place in front, where the steps from a place on are in front
+abbrev pub front_of : List CodeFrame → Option ℕ
+front_of fs = rest_in (slice_get fs (length fs - 1))
 
 -- the highest place that frames name
 abbrev pub place_of : CodeFrame → ℕ

@@ -14,7 +14,7 @@ use crate::fresh::least_free;
 use crate::going::Going;
 use crate::moves::{Move, advance, put};
 use crate::node::{Cursor, Frame, Next, Node};
-use crate::nodes::{arms, asking, compose};
+use crate::nodes::{arms, asking};
 use ax_base::{Duplicate, NoMemory};
 use ax_lang::Program;
 use ax_text::Request;
@@ -95,8 +95,7 @@ fn wait(
         slot,
         request: copied,
     })?;
-    let first = asking(alloc, slot, request, next)?;
-    let node = compose(alloc, first, cursor)?;
+    let node = asking(alloc, slot, request, next, cursor)?;
     Ok(node)
 }
 

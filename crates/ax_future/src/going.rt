@@ -89,9 +89,13 @@ fn values_in(
 }
 
 // Empties a list, and keeps its memory.
+#[inline(always)]
 fn empty<T: Drop>(alloc: Global, list: &mut ListOf<T>)
     ensures { list.new ≡ [] }
 {
+    if list.is_empty() {
+        return;
+    }
     let mut items = mem::replace(list, ListOf::new(alloc)).into_vec();
     items.clear();
     *list = ListOf::from_vec(items);

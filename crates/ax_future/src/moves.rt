@@ -1,13 +1,13 @@
 //! One step of a handler.
-ghost use Rattle.std.specs.Prelude.{◌≡◌, ◌≤◌, ◌<◌, drop, length, slice_get, Some, ◌++◌, ◌∷◌, [], max, suc, IfOk, OnOk};
+ghost use Rattle.std.specs.Prelude.{◌≡◌, ◌≤◌, ◌<◌, ◌-◌, drop, take, length, slice_get, Some, None, ◌++◌, ◌∷◌, [], max, suc, IfOk, IfSome, OnOk};
 ghost use Rattle.ax_text.specs.Exprs.{Facts as AnyFacts};
-ghost use Rattle.ax_text.specs.Controls.{Rest, Turns};
+ghost use Rattle.ax_text.specs.Controls.{Rest, Turns, Cursor as AnyCursor};
 ghost use Rattle.ax_text.specs.Run.{loop_request};
 ghost use Rattle.ax_lang.specs.declared.program.Program.{Program as AnyProgram};
 ghost use Rattle.ax_lang.specs.Forms.{form_of, text_with, top_of, shown_loop, Branches};
 ghost use Rattle.ax_lang.specs.Shown.{text_from};
 ghost use Rattle.ax_expr.specs.Shown.{shown_expr};
-ghost use Rattle.ax_future.specs.Nodes.{frame_in, cursor_in, place_of, highest};
+ghost use Rattle.ax_future.specs.Nodes.{frame_in, cursor_in, behind, front_of, place_of, highest};
 ghost use Rattle.ax_future.specs.Talks.{known_in, talk_of};
 ghost use Rattle.ax_future.specs.Moves.{IsPlain, Moves, above};
 
@@ -45,6 +45,29 @@ pub fn put(cursor: &mut Cursor, frame: Frame) -> Result<(), NoMemory>
     }
 }
 
+// The place in front, where the steps from a place on are in front.
+#[inline(always)]
+fn front_of(cursor: &[Frame]) -> Option<usize>
+    ensures { result ≡ front_of cursor.now }
+{
+    match cursor.last() {
+        Some(Frame::Rest { place }) => Some(*place),
+        _ => None,
+    }
+}
+
+// The steps from a place on take the place of what is in front.
+#[inline(always)]
+#[tactic(auto, using(crate::proofs::CursorLemmas::cursor_set, crate::proofs::CursorLemmas::highest_set))]
+fn go_to(cursor: &mut Cursor, place: usize)
+    requires { 0 < length cursor.old.items }
+    ensures cursor { (p : AnyProgram) → cursor_in p cursor.new.items ≡ Rest (text_from p place) ∷ behind (cursor_in p cursor.old.items) }
+    ensures highest { highest cursor.new.items ≤ max (highest cursor.old.items) place }
+{
+    let last = cursor.len() - 1;
+    cursor[last] = Frame::Rest { place };
+}
+
 // What an `each` asks.
 fn loop_request(turn: Loop) -> Request
     ensures { result ≡ loop_request (shown_loop turn) }
@@ -55,22 +78,19 @@ fn loop_request(turn: Loop) -> Request
     }
 }
 
-// A statement that asks at most once.
+// A statement that asks at most once. What stands behind it is in front already.
 #[inline(always)]
 fn take_plain(
     alloc: Global,
     facts: &Known<'_>,
     step: &Step,
-    cursor: &mut Cursor,
     going: &mut Going,
 ) -> Result<Move, NoMemory>
     requires { IsPlain (form_of step.now.stmt) }
-    ensures moves { IfOk result (λ m. (p : AnyProgram) → Moves (known_in facts.now) p (Rest (text_with (text_from p) (form_of step.now.stmt) step.now.next) ∷ cursor_in p cursor.old.items) (cursor_in p cursor.new.items) (talk_of going.old) (talk_of going.new) m) }
-    ensures places { IfOk result (λ m. highest cursor.new.items ≤ max (highest cursor.old.items) (top_of step.now)) }
+    ensures moves { IfOk result (λ m. (p : AnyProgram) (k k' : AnyCursor) → k' ≡ Rest (text_from p step.now.next) ∷ k → Moves (known_in facts.now) p (Rest (text_with (text_from p) (form_of step.now.stmt) step.now.next) ∷ k) k' (talk_of going.old) (talk_of going.new) m) }
     ensures above { IfOk result (λ m. above m ≤ suc (top_of step.now)) }
     ensures asks { going.new.said.asks ≡ going.old.said.asks }
 {
-    put(cursor, Frame::Rest { place: step.next })?;
     match going.question(alloc, facts, &step.stmt)? {
         Some(question) => Ok(Move::Wait {
             request: question.request,
@@ -85,7 +105,7 @@ fn take_plain(
     }
 }
 
-// An `if`: one of its parts comes first, and then what stands behind it.
+// An `if`: one of its parts comes first, and then what stands behind it, which is in front already.
 fn take_branch(
     facts: &Known<'_>,
     going: &Going,
@@ -93,11 +113,10 @@ fn take_branch(
     parts: &Parts,
     cursor: &mut Cursor,
 ) -> Result<Move, NoMemory>
-    ensures moves { IfOk result (λ m. (p : AnyProgram) → Moves (known_in facts.now) p (Rest (text_with (text_from p) (Branches (shown_expr test.now) parts.now.one parts.now.other) parts.now.next) ∷ cursor_in p cursor.old.items) (cursor_in p cursor.new.items) (talk_of going.now) (talk_of going.now) m) }
+    ensures moves { IfOk result (λ m. (p : AnyProgram) (k : AnyCursor) → cursor_in p cursor.old.items ≡ Rest (text_from p parts.now.next) ∷ k → Moves (known_in facts.now) p (Rest (text_with (text_from p) (Branches (shown_expr test.now) parts.now.one parts.now.other) parts.now.next) ∷ k) (cursor_in p cursor.new.items) (talk_of going.now) (talk_of going.now) m) }
     ensures places { OnOk result (highest cursor.new.items ≤ max (highest cursor.old.items) (max parts.now.next (max parts.now.one parts.now.other))) }
     ensures above { IfOk result (λ m. above m ≡ 0) }
 {
-    put(cursor, Frame::Rest { place: parts.next })?;
     if going.is_zero(facts, test) {
         put(cursor, Frame::Rest { place: parts.other })?;
         Ok(Move::Go)
@@ -115,7 +134,7 @@ struct Parts {
     next: usize,
 }
 
-// One statement.
+// One statement. What stands behind it is in front already.
 #[inline(always)]
 fn take_step(
     alloc: Global,
@@ -124,7 +143,7 @@ fn take_step(
     cursor: &mut Cursor,
     going: &mut Going,
 ) -> Result<Move, NoMemory>
-    ensures moves { IfOk result (λ m. (p : AnyProgram) → Moves (known_in facts.now) p (Rest (text_with (text_from p) (form_of step.now.stmt) step.now.next) ∷ cursor_in p cursor.old.items) (cursor_in p cursor.new.items) (talk_of going.old) (talk_of going.new) m) }
+    ensures moves { IfOk result (λ m. (p : AnyProgram) (k : AnyCursor) → cursor_in p cursor.old.items ≡ Rest (text_from p step.now.next) ∷ k → Moves (known_in facts.now) p (Rest (text_with (text_from p) (form_of step.now.stmt) step.now.next) ∷ k) (cursor_in p cursor.new.items) (talk_of going.old) (talk_of going.new) m) }
     ensures places { OnOk result (highest cursor.new.items ≤ max (highest cursor.old.items) (top_of step.now)) }
     ensures above { IfOk result (λ m. above m ≤ suc (top_of step.now)) }
     ensures asks { going.new.said.asks ≡ going.old.said.asks }
@@ -138,24 +157,18 @@ fn take_step(
             };
             take_branch(facts, going, test, &parts, cursor)
         }
-        Stmt::Each { turn, body } => {
-            put(cursor, Frame::Rest { place: step.next })?;
-            Ok(Move::Wait {
-                request: loop_request(*turn),
-                next: Next::Begin {
-                    turn: *turn,
-                    body: *body,
-                },
-            })
-        }
-        Stmt::Both { one, two } => {
-            put(cursor, Frame::Rest { place: step.next })?;
-            Ok(Move::Split {
-                one: *one,
-                two: *two,
-            })
-        }
-        _ => take_plain(alloc, facts, step, cursor, going),
+        Stmt::Each { turn, body } => Ok(Move::Wait {
+            request: loop_request(*turn),
+            next: Next::Begin {
+                turn: *turn,
+                body: *body,
+            },
+        }),
+        Stmt::Both { one, two } => Ok(Move::Split {
+            one: *one,
+            two: *two,
+        }),
+        _ => take_plain(alloc, facts, step, going),
     }
 }
 
@@ -197,38 +210,65 @@ fn take_turn(
     Ok(Move::Go)
 }
 
-// What a frame says.
+// What is in front has come to its end.
+fn end_text(cursor: &mut Cursor)
+    requires { 0 < length cursor.old.items }
+    ensures { cursor.new.items ≡ take (length cursor.old.items - 1) cursor.old.items }
+{
+    cursor.pop();
+}
+
+// The steps from a place on, which are in front.
 #[inline(always)]
-fn take_frame(
+fn take_text(
     alloc: Global,
     program: &Program,
     facts: &Known<'_>,
-    frame: Frame,
+    place: usize,
     cursor: &mut Cursor,
     going: &mut Going,
 ) -> Result<Move, NoMemory>
-    ensures moves { IfOk result (λ m. Moves (known_in facts.now) program.now (frame_in program.now frame ∷ cursor_in program.now cursor.old.items) (cursor_in program.now cursor.new.items) (talk_of going.old) (talk_of going.new) m) }
-    ensures places { OnOk result (highest cursor.new.items ≤ max (highest cursor.old.items) (place_of frame)) }
-    ensures above { IfOk result (λ m. above m ≤ place_of frame) }
+    requires { front_of cursor.old.items ≡ Some place }
+    ensures moves { IfOk result (λ m. Moves (known_in facts.now) program.now (cursor_in program.now cursor.old.items) (cursor_in program.now cursor.new.items) (talk_of going.old) (talk_of going.new) m) }
+    ensures places { OnOk result (highest cursor.new.items ≤ highest cursor.old.items) }
+    ensures above { IfOk result (λ m. above m ≤ highest cursor.old.items) }
     ensures asks { going.new.said.asks ≡ going.old.said.asks }
 {
-    match frame {
-        Frame::Turns {
-            turn,
-            turns,
-            at,
-            body,
-        } => {
+    match program.step(place) {
+        None => {
+            end_text(cursor);
+            Ok(Move::Go)
+        }
+        Some(step) => {
+            go_to(cursor, step.next);
+            let taken = take_step(alloc, facts, step, cursor, going)?;
+            Ok(taken)
+        }
+    }
+}
+
+// What is in front, where that are the turns of an `each`, or nothing.
+fn take_other(cursor: &mut Cursor, going: &mut Going) -> Result<Move, NoMemory>
+    requires { front_of cursor.old.items ≡ None }
+    ensures moves { IfOk result (λ m. (p : AnyProgram) (f : AnyFacts) → Moves f p (cursor_in p cursor.old.items) (cursor_in p cursor.new.items) (talk_of going.old) (talk_of going.new) m) }
+    ensures places { OnOk result (highest cursor.new.items ≤ highest cursor.old.items) }
+    ensures above { IfOk result (λ m. above m ≡ 0) }
+    ensures asks { going.new.said.asks ≡ going.old.said.asks }
+{
+    match cursor.pop() {
+        None => Ok(Move::End),
+        Some(Frame::Rest { .. }) => unreachable!(),
+        Some(
+            Frame::Turns {
+                turn,
+                turns,
+                at,
+                body,
+            },
+        ) => {
             let taken = take_turn(turn, turns, at, body, cursor, going)?;
             Ok(taken)
         }
-        Frame::Rest { place } => match program.step(place) {
-            None => Ok(Move::Go),
-            Some(step) => {
-                let taken = take_step(alloc, facts, step, cursor, going)?;
-                Ok(taken)
-            }
-        },
     }
 }
 
@@ -246,11 +286,8 @@ pub fn advance(
     ensures above { IfOk result (λ m. above m ≤ highest cursor.old.items) }
     ensures asks { going.new.said.asks ≡ going.old.said.asks }
 {
-    match cursor.pop() {
-        None => Ok(Move::End),
-        Some(frame) => {
-            let taken = take_frame(alloc, program, facts, frame, cursor, going)?;
-            Ok(taken)
-        }
+    match front_of(cursor) {
+        Some(place) => take_text(alloc, program, facts, place, cursor, going),
+        None => take_other(cursor, going),
     }
 }

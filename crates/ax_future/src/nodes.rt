@@ -73,10 +73,17 @@ pub fn combine(alloc: Global, left: Node, right: Node) -> Result<Node, NoMemory>
     pair(alloc, left, right, Vec::new(alloc))
 }
 
-/// A request that waits at a slot, and what becomes of its answer.
+/// A request that waits at a slot, what becomes of its answer, and what goes on behind it: what `compose` makes of a request
+/// with nothing behind it.
 #[inline(always)]
-pub fn asking(alloc: Global, slot: u8, request: Request, next: Next) -> Result<Node, NoMemory>
-    ensures { IfOk result (λ node. (p : AnyProgram) → control_in p node ≡ WaitsFor slot request (next_in p next) []) }
+pub fn asking(
+    alloc: Global,
+    slot: u8,
+    request: Request,
+    next: Next,
+    cursor: Cursor,
+) -> Result<Node, NoMemory>
+    ensures { IfOk result (λ node. (p : AnyProgram) → control_in p node ≡ WaitsFor slot request (next_in p next) (cursor_in p cursor.items)) }
 {
     match next {
         Next::Take { assign } => {
@@ -86,7 +93,7 @@ pub fn asking(alloc: Global, slot: u8, request: Request, next: Next) -> Result<N
                 next: Next::Take {
                     assign: Assign::Ignore,
                 },
-                cursor: Vec::new(alloc),
+                cursor,
             };
             let node = then(alloc, first, assign)?;
             Ok(node)
@@ -95,7 +102,7 @@ pub fn asking(alloc: Global, slot: u8, request: Request, next: Next) -> Result<N
             slot,
             request,
             next: Next::Begin { turn, body },
-            cursor: Vec::new(alloc),
+            cursor,
         }),
     }
 }

@@ -8,23 +8,21 @@ use Rattle.ax_future.specs.Moves.{Asks, Splits}
 use Rattle.ax_future.proofs.MoveLemmas.{each_asks, both_splits}
 use Rattle.ax_future.proofs.moves.take_step.Goals as goal
 
-pub returns-in_ok-put-in-Each-clause-moves : goal.returns-in_ok-put-in-Each-clause-moves
-returns-in_ok-put-in-Each-clause-moves c p =
+pub returns-in-Each-clause-moves : goal.returns-in-Each-clause-moves
+returns-in-Each-clause-moves c p k h =
     let f = known_in c.args.facts.now in
-    let k = cursor_in p c.args.cursor.now.items in
-    let k' = cursor_in p c.put.new.cursor.items in
+    let k' = cursor_in p c.args.cursor.now.items in
     let t = talk_of c.args.going.now in
     let n = c.args.step.now.next in
     let wait = Begin (shown_loop c.in-Each.turn) (text_from p c.in-Each.body) in
     subst (λ (x : Form). Asks f (Rest (text_with (text_from p) x n) ∷ k) k' t t c.loop_request.result wait) (sym (ap form_of c.in-Each.is))
-    (each_asks f k k' t t (shown_loop c.in-Each.turn) (text_from p c.in-Each.body) (text_from p n) c.loop_request.result wait (c.in_ok-put-in-Each.ensures.cursor p) refl c.loop_request.ensures refl)
+    (each_asks f k k' t t (shown_loop c.in-Each.turn) (text_from p c.in-Each.body) (text_from p n) c.loop_request.result wait h refl c.loop_request.ensures refl)
 
-pub returns-in_ok-put-in-Both-clause-moves : goal.returns-in_ok-put-in-Both-clause-moves
-returns-in_ok-put-in-Both-clause-moves c p =
+pub returns-in-Both-clause-moves : goal.returns-in-Both-clause-moves
+returns-in-Both-clause-moves c p k h =
     let f = known_in c.args.facts.now in
-    let k = cursor_in p c.args.cursor.now.items in
-    let k' = cursor_in p c.put-in-Both.new.cursor.items in
+    let k' = cursor_in p c.args.cursor.now.items in
     let t = talk_of c.args.going.now in
     let n = c.args.step.now.next in
     subst (λ (x : Form). Splits f (text_from p c.in-Both.one) (text_from p c.in-Both.two) (Rest (text_with (text_from p) x n) ∷ k) k' t t) (sym (ap form_of c.in-Both.is))
-    (both_splits f k k' t t (text_from p c.in-Both.one) (text_from p c.in-Both.two) (text_from p n) (c.in_ok-put-in-Both.ensures.cursor p) refl)
+    (both_splits f k k' t t (text_from p c.in-Both.one) (text_from p c.in-Both.two) (text_from p n) h refl)
