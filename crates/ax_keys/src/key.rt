@@ -6,7 +6,6 @@ ghost use Rattle.std.specs.Cmp.{partial_equiv_from_equiv};
 ghost use Rattle.std.specs.Cmp.Lexicographic.{pointwise, slice_cmp, nat_list_eq_equiv, nat_list_cmp_total, texts_ties, texts_po};
 ghost use Rattle.ax_keys.specs.Keys.{is_key, is_key_byte};
 
-use ax_base::heads::note_bytes;
 use ax_base::{Duplicate, ListOf, NoMemory, cmp_by_heads, head_of};
 use smallvec::SmallVec;
 use std::alloc::Global;
@@ -147,8 +146,6 @@ impl Ord for Key {
 
     #[inline(always)]
     fn cmp(&self, other: &Key) -> Ordering {
-        note_bytes(self.bytes.as_slice());
-        note_bytes(other.bytes.as_slice());
         if self.head < other.head {
             return Ordering::Less;
         }
