@@ -224,6 +224,70 @@ parallel|10|r a 1 3;w 6;r a 7 4;m;k;m;k;M;k;w 8;f;M;k| A1 A2 S1[1, 1]! F3a@3/6 -
 const BOTH: &str = "\
 serial|10|r a 1;r a 2;M;s 5 1;d 5;M;s 5 1;n;d 5;M;S;d 5;M;S;d 5;M;S;d 5;M;S;d 5;M;S;d 5;M;S;d 5;M;n| A1 A2 S1 B5x1 R1.0 B5x1 =2 R1.1 B5x1 R1.0 B5x1 R1.0[3, 4]! S2 B5x2 R2.0 R2.1 B5x1 R2.0 B5x1 R2.0[4, 3]! =0";
 
+// The next row where one may come; else all mails, all batches, and what was answered.
+fn row_or_work(rt: &impl Abort, alloc: Global, hand: &mut Hand, next: i64, told: &mut String) -> i64
+    requires { IsReady hand.old }
+    ensures { IsReady hand.new }
+{
+    if next <= 20 && hand.core.may_admit() {
+        let row = format!(in alloc; "r a {next} {next}").expect(rt, "memory");
+        call(rt, hand, row.as_str(), told);
+        next.wrapping_add(1)
+    } else {
+        mails(rt, hand, told);
+        batches(rt, hand, told);
+        let _count = hand.deliver(5);
+        next
+    }
+}
+
+// So many turns, from the first row on.
+fn rows_and_work(rt: &impl Abort, alloc: Global, hand: &mut Hand, turns: u32, told: &mut String)
+    requires { IsReady hand.old }
+    ensures { IsReady hand.new }
+{
+    let mut next: i64 = 1;
+    for _turn in 0..turns {
+        next = row_or_work(rt, alloc, hand, next, told);
+    }
+}
+
+// Twenty rows of one key, one after the other or all at once; the sums are the same.
+fn twenty_rows(rt: &impl Abort, alloc: Global, in_flight: u32) -> String {
+    let settings = Settings {
+        serial: true,
+        shards: 8,
+        groups: 128,
+        in_flight,
+    };
+    let mut told = String::new(alloc);
+    assert!(rt; in_flight <= 65536);
+    let mut hand = Hand::new(alloc, program(rt, alloc, SUMS), settings).expect(rt, "memory");
+    rows_and_work(rt, alloc, &mut hand, 200, &mut told);
+    lines_in(rt, alloc, told.as_str())
+}
+
+// What stands in brackets.
+fn lines_in(rt: &impl Abort, alloc: Global, told: &str) -> String {
+    let mut lines = String::new(alloc);
+    for part in told.split('[') {
+        let mut halves = part.split(']');
+        let line = halves.next().unwrap_or("");
+        if halves.next().is_some() {
+            write!(lines, " {line}").expect(rt, "memory");
+        }
+    }
+    lines
+}
+
+#[test]
+fn twenty_rows_of_a_key(rt: HostRuntime) {
+    let alloc = rt.alloc();
+    let sums = " 1 3 6 10 15 21 28 36 45 55 66 78 91 105 120 136 153 171 190 210";
+    assert_eq!(rt; twenty_rows(&rt, alloc, 1).as_str(), sums);
+    assert_eq!(rt; twenty_rows(&rt, alloc, 6000).as_str(), sums);
+}
+
 // The first line of a table whose calls tell something else.
 fn first_wrong(rt: &impl Abort, alloc: Global, text: &str, table: &str) -> String {
     for case in table.lines() {

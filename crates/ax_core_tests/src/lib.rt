@@ -3,6 +3,8 @@
 
 #[cfg(test)]
 mod by_hand;
+#[cfg(test)]
+mod drawn;
 pub mod hand;
 #[cfg(test)]
 mod programs;
