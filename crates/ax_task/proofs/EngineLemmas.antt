@@ -32,7 +32,7 @@ use Rattle.ax_execution.specs.ControlsAllowed.{FirstIsFinishedOn}
 use Rattle.ax_core.specs.Events.{SameRules, KeysStay, Makes, MayFireOn, Fires, Runs, Sends, StaysUnsent}
 use Rattle.ax_task.specs.Shards.{shard_count, held, out}
 use Rattle.ax_task.specs.Refined.{content_over, Refines}
-use Rattle.ax_task.specs.Engines.{Stands, IsReady, MovesOn, Takes, Wrote, Writes, WroteSome, WritesSome, IsQuiet, IsBlockOf, IsMarkerText, WroteMarker, WritesPart}
+use Rattle.ax_task.specs.Engines.{Stands, ShardsStay, IsReady, MovesOn, Takes, Wrote, Writes, WroteSome, WritesSome, IsQuiet, IsBlockOf, IsMarkerText, WroteMarker, WritesPart}
 use Rattle.ax_task.specs.declared.engine.Engine.{Engine}
 use Rattle.ax_task.proofs.Refining.{Leaves}
 use Rattle.ax_task.proofs.Things.{marker_event, fires_on, admits_on, closes_on, sends_on, runs_on, skips_on}
@@ -45,15 +45,10 @@ leaves : (a b : Controller) → SameRules a b → b.outs ≡ a.outs → KeysStay
 leaves a b same outs keys = record { same = same; outs = outs; keys = keys }
 
 -- another controller behind the same shards
-pub record SameDesk (e e' : Engine) : Type 0 where
-  pub settings : e'.settings ≡ e.settings
-  pub batch : e'.batch ≡ e.batch
-  pub shards : e'.shards ≡ e.shards
+pub shards_stay : (e e' : Engine) → e'.settings ≡ e.settings → e'.batch ≡ e.batch → e'.shards ≡ e.shards → ShardsStay e e'
+shards_stay e e' settings batch shards = record { settings = settings; batch = batch; shards = shards }
 
-pub same_desk : (e e' : Engine) → e'.settings ≡ e.settings → e'.batch ≡ e.batch → e'.shards ≡ e.shards → SameDesk e e'
-same_desk e e' settings batch shards = record { settings = settings; batch = batch; shards = shards }
-
-pub stands_as : (s : Settings) (p : Program) (e e' : Engine) (read read' : List Event) (written written' : List Entry) → SameDesk e e' → Stands s p e read written
+pub stands_as : (s : Settings) (p : Program) (e e' : Engine) (read read' : List Event) (written written' : List Entry) → ShardsStay e e' → Stands s p e read written
     → IsSound e'.core → Refines s p e'.core (content_over s (held e.shards)) (out e.shards) read' written' → Stands s p e' read' written'
 stands_as s p e e' read read' written written' d x sound r = record {
   sound = sound;
@@ -84,7 +79,7 @@ writes_none e e' h m s p read written x = record {
   grown = Appends-none h;
 }
 
-module _ (e e' : Engine) (d : SameDesk e e') (sound : IsSound e'.core) (same : SameRules e.core e'.core) (outs : e'.core.outs ≡ e.core.outs) (keys : KeysStay e.core e'.core) where
+module _ (e e' : Engine) (d : ShardsStay e e') (sound : IsSound e'.core) (same : SameRules e.core e'.core) (outs : e'.core.outs ≡ e.core.outs) (keys : KeysStay e.core e'.core) where
   on : Leaves e.core e'.core
   on = leaves e.core e'.core same outs keys
 
@@ -131,7 +126,7 @@ wm_sent q c = of c.unsent
     of (d ∷ ds) = refl
 
 -- a marker is sent
-module _ (e e' : Engine) (d : SameDesk e e') (sound : IsSound e'.core) (same : SameRules e.core e'.core) (outs : e'.core.outs ≡ e.core.outs) (keys : KeysStay e.core e'.core)
+module _ (e e' : Engine) (d : ShardsStay e e') (sound : IsSound e'.core) (same : SameRules e.core e'.core) (outs : e'.core.outs ≡ e.core.outs) (keys : KeysStay e.core e'.core)
     (k : Marker) (h : (m : MachineControl) → StandsFor e.core m → Sends e.core e'.core k m) where
   module _ (s : Settings) (p : Program) (read : List Event) (written : List Entry) (x : Stands s p e read written) where
     abbrev c : MachineControl
@@ -185,7 +180,7 @@ module _ (e e' : Engine) (d : SameDesk e e') (sound : IsSound e'.core) (same : S
     grown = subst (Appends g g') (entry_is s p read written x w.text w.is) w.grown;
   }
 
-  pub marker_moves : (e'' : Engine) → SameDesk e' e'' → e''.core ≡ e'.core → (g g' : Option (List ℕ)) → WroteMarker e' k g g' → Writes e e'' g g'
+  pub marker_moves : (e'' : Engine) → ShardsStay e' e'' → e''.core ≡ e'.core → (g g' : Option (List ℕ)) → WroteMarker e' k g g' → Writes e e'' g g'
   marker_moves e'' d' core g g' w s p read written x = record {
     entries = it s p read written x ∷ [];
     stands = let y : Stands s p e' read (written ++ it s p read written x ∷ []) = stands s p read written x in
@@ -251,7 +246,7 @@ first_stands s p e sound stands program settings own shards kinds home blank som
     none shard = none_in e.core.outs.items shard (omega (arith, stands.stands.way))
 
 -- the oldest closed epoch isn't finished
-pub unsent_moves : (e e' : Engine) → SameDesk e e' → ((m : MachineControl) → StandsFor e.core m → StaysUnsent e.core e'.core m) → MovesOn e e'
+pub unsent_moves : (e e' : Engine) → ShardsStay e e' → ((m : MachineControl) → StandsFor e.core m → StaysUnsent e.core e'.core m) → MovesOn e e'
 unsent_moves e e' d h s p read written x =
     let same : e'.core ≡ e.core = (h (control_of_machine x.refines.machine) x.refines.stands).same in
     stands_as s p e e' read read written written d x (subst IsSound (sym same) x.sound)
@@ -270,7 +265,7 @@ ready_behind e e' r h h' w =
     record { settings = r.settings; program = r.program; read = r.read; written = r.written ++ y.entries; stands = y.stands }
 
 -- the engine behind a marker that was taken and isn't written
-pub ready_sent : (e e' : Engine) → SameDesk e e' → IsSound e'.core → SameRules e.core e'.core → e'.core.outs ≡ e.core.outs → KeysStay e.core e'.core
+pub ready_sent : (e e' : Engine) → ShardsStay e e' → IsSound e'.core → SameRules e.core e'.core → e'.core.outs ≡ e.core.outs → KeysStay e.core e'.core
     → (k : Marker) → ((m : MachineControl) → StandsFor e.core m → Sends e.core e'.core k m) → IsReady e → IsReady e'
 ready_sent e e' d sound same outs keys k h r = record {
   settings = r.settings;
@@ -285,7 +280,7 @@ pub quiet : (a b : Controller) → b ≡ a → ((m : MachineControl) → StandsF
 quiet a b same fires sends = record { fires = subst (λ (d : Controller). (m : MachineControl) → StandsFor d m → MayFireOn d m → ⊥) (sym same) fires; sends = sends }
 
 -- an epoch is closed, if memory is there
-pub close_ok : {E : Type 0} (e e' : Engine) → SameDesk e e' → (k : Marker) → (r : Result (Unit {0}) E) → OnOk r (IsSound e'.core) → OnOk r (SameRules e.core e'.core) → OnOk r (e'.core.outs ≡ e.core.outs) → OnOk r (KeysStay e.core e'.core)
+pub close_ok : {E : Type 0} (e e' : Engine) → ShardsStay e e' → (k : Marker) → (r : Result (Unit {0}) E) → OnOk r (IsSound e'.core) → OnOk r (SameRules e.core e'.core) → OnOk r (e'.core.outs ≡ e.core.outs) → OnOk r (KeysStay e.core e'.core)
     → OnOk r ((m : MachineControl) → StandsFor e.core m → Makes e.core e'.core (Close (closing_of k)) m) → OnOk r (Takes e e' (marker_event k))
 close_ok e e' d k (Ok x) sound same outs keys event = close_takes e e' d sound same outs keys k event
 close_ok e e' d k (Err x) sound same outs keys event = tt

@@ -11,13 +11,12 @@ use Rattle.ax_core.specs.Events.{SameRules, Fires, Runs, Sends}
 use Rattle.ax_task.specs.Shards.{Serving, held, out}
 use Rattle.ax_task.specs.Refined.{content_over}
 use Rattle.ax_task.specs.Work.{left_to_do}
-use Rattle.ax_task.specs.Engines.{Stands, IsReady}
+use Rattle.ax_task.specs.Engines.{Stands, ShardsStay, IsReady}
 use Rattle.ax_task.specs.Exchanged.{LessIsLeft}
 use Rattle.ax_task.specs.declared.engine.Engine.{Engine}
-use Rattle.ax_task.proofs.EngineLemmas.{SameDesk}
 use Rattle.ax_task.proofs.Falling.{fires_fall, runs_fall, sends_fall}
 
-module _ (e e' : Engine) (d : SameDesk e e') (same : SameRules e.core e'.core) (r : IsReady e) where
+module _ (e e' : Engine) (d : ShardsStay e e') (same : SameRules e.core e'.core) (r : IsReady e) where
   abbrev x : Stands r.settings r.program e r.read r.written
   x = r.stands
 
@@ -39,7 +38,7 @@ module _ (e e' : Engine) (d : SameDesk e e') (same : SameRules e.core e'.core) (
   marker_less k h = lesser (sends_fall r.settings r.program e.core e'.core (content_over r.settings (held e.shards)) (out e.shards) r.read r.written x.refines same k (h c x.refines.stands))
 
 -- the same of an engine whose controller and shards are those
-pub less_as : (e e' e'' : Engine) → SameDesk e' e'' → e''.core ≡ e'.core → LessIsLeft e e' → LessIsLeft e e''
+pub less_as : (e e' e'' : Engine) → ShardsStay e' e'' → e''.core ≡ e'.core → LessIsLeft e e' → LessIsLeft e e''
 less_as e e' e'' d core h = subst (λ (v : Serving). left_to_do e''.core (content_over e''.settings (held v)) < left_to_do e.core (content_over e.settings (held e.shards))) (sym d.shards)
     (subst (λ (s : Settings). left_to_do e''.core (content_over s (held e'.shards)) < left_to_do e.core (content_over e.settings (held e.shards))) (sym d.settings)
     (subst (λ (a : Controller). left_to_do a (content_over e'.settings (held e'.shards)) < left_to_do e.core (content_over e.settings (held e.shards))) (sym core) h))

@@ -32,6 +32,20 @@ pub record Stands (s : Settings) (p : Program) (e : Engine) (read : List Event) 
   pub some : 0 < s.in_flight
   pub batch : 0 < e.batch
 
+-- how many requests go to a shard at once
+abbrev pub batch_of : Engine → ℕ
+batch_of e = e.batch
+
+-- the numbers that are left to choose by which batch is served
+abbrev pub order_of : Engine → List ℤ
+order_of e = e.shards.order
+
+-- the controller alone went on: which batches are out, what the shards hold, and by what it is chosen which batch is served, stay
+pub record ShardsStay (old new : Engine) : Type 0 where
+  pub settings : new.settings ≡ old.settings
+  pub batch : batch_of new ≡ batch_of old
+  pub shards : new.shards ≡ old.shards
+
 -- it is somewhere in a run
 pub record IsReady (e : Engine) : Type 0 where
   pub settings : Settings

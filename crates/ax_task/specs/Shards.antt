@@ -61,9 +61,13 @@ choice (n ∷ ns) = cast_unsigned w64 n % 2 ^ 63
 abbrev pub place_in : List ℤ → ℕ → ℕ
 place_in order count = choice order % count
 
+-- the shard whose batch is served next, where one is out
+abbrev pub next_out : Serving → ℕ
+next_out v = slice_index_or v.sent (place_in v.order (length v.sent)) 0
+
 -- the batch of this shard was the one to be served next, and the number by which it was chosen is used up
 pub record IsNext (old new : Serving) (s : ℕ) : Type 0 where
-  pub shard : s ≡ slice_index_or old.sent (place_in old.order (length old.sent)) 0
+  pub shard : s ≡ next_out old
   pub sent : new.sent ≡ remove old.sent (place_in old.order (length old.sent))
   pub order : new.order ≡ drop 1 old.order
 

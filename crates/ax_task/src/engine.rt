@@ -10,7 +10,7 @@ ghost use Rattle.ax_core.specs.May.{may_fire, may_close, has_mail};
 ghost use Rattle.ax_core.specs.Sound.{InRange, StandsFor};
 ghost use Rattle.ax_task.specs.Exchanged.{LessIsLeft};
 ghost use Rattle.ax_task.specs.Due.{IsFree};
-ghost use Rattle.ax_task.specs.Engines.{Stands, IsReady, MovesOn, Takes, Writes, WritesSome, IsQuiet, WroteMarker, WritesPart, may_take};
+ghost use Rattle.ax_task.specs.Engines.{Stands, ShardsStay, batch_of, order_of, IsReady, MovesOn, Takes, Writes, WritesSome, IsQuiet, WroteMarker, WritesPart, may_take};
 
 use crate::config::Config;
 use crate::line::{write_lines, write_mark};
@@ -59,7 +59,9 @@ impl Engine {
         requires ranges { InRange config.now.settings }
         requires contexts { 0 < config.now.settings.in_flight }
         requires batch { 0 < config.now.batch }
-        ensures { IfOk result (λ e. Stands config.now.settings program e [] []) }
+        ensures stands { IfOk result (λ e. Stands config.now.settings program e [] []) }
+        ensures batch { IfOk result (λ e. batch_of e ≡ config.now.batch) }
+        ensures order { IfOk result (λ e. order_of e ≡ order) }
     {
         let shards = Shards::new(alloc, config.settings.shards, program.decls(), order)?;
         let core = Controller::new(alloc, program, config.settings)?;
@@ -78,6 +80,7 @@ impl Engine {
         requires ready { IsReady self.old }
         requires may { may_fire self.old.core ≡ true }
         ensures moves { OnOk result (MovesOn self.old self.new) }
+        ensures shards { ShardsStay self.old self.new }
         ensures falls { OnOk result (LessIsLeft self.old self.new) }
     {
         self.core.fire_next()?;
@@ -90,6 +93,7 @@ impl Engine {
         requires ready { IsReady self.old }
         requires mail { has_mail self.old.core ≡ true }
         ensures writes { OnOk result (Writes self.old self.new (K.holds out.old) (K.holds out.new)) }
+        ensures shards { ShardsStay self.old self.new }
         ensures falls { OnOk result (LessIsLeft self.old self.new) }
         ensures part { OnErr result (WritesSome self.old (K.holds out.old) (K.holds out.new)) }
         ensures counts { OwnCounts (K.counts out.old) (K.counts out.new) result }
@@ -133,7 +137,7 @@ impl Engine {
         write_all(out, bytes.as_slice())
     }
 
-    // Writes a marker that was taken as the next, with all that was gathered before it.
+    // Writes a marker that was taken as the next, with all that was gathered before it. Then nothing is gathered.
     fn write_through<K: Sink, B: Begun>(
         &mut self,
         marker: Marker,
@@ -145,6 +149,7 @@ impl Engine {
         ensures batch { self.new.batch ≡ self.old.batch }
         ensures shards { self.new.shards ≡ self.old.shards }
         ensures wrote { OnOk result (WroteMarker self.old marker (append_known (K.holds out.old.inner.now) out.old.room.now) (append_known (K.holds out.new.inner.now) out.new.room.now)) }
+        ensures flushed { OnOk result (out.new.room.now ≡ []) }
         ensures part { OnErr result (WritesPart self.old marker (append_known (K.holds out.old.inner.now) out.old.room.now) (append_known (K.holds out.new.inner.now) out.new.room.now)) }
         ensures counts { OwnCounts (K.counts out.old.inner.now) (K.counts out.new.inner.now) result }
         ensures same { out.new.inner.ghost_name ≡ out.old.inner.ghost_name }
@@ -153,7 +158,7 @@ impl Engine {
         out.flush()
     }
 
-    // Sends the next marker, and writes all that was gathered. Whether there was one.
+    // Sends the next marker, and writes all that was gathered. Whether there was one; where there was, nothing is gathered then.
     fn send_marker<K: Sink, B: Begun>(
         &mut self,
         out: &mut Gather<'_, K, B>,
@@ -162,8 +167,10 @@ impl Engine {
         ensures writes { OnOk result (Writes self.old self.new (append_known (K.holds out.old.inner.now) out.old.room.now) (append_known (K.holds out.new.inner.now) out.new.room.now)) }
         ensures none { IfOk result (λ sent. sent ≡ false → (m : MachineControl) → StandsFor self.new.core m → FirstIsFinishedOn m.unsent m → ⊥) }
         ensures core { IfOk result (λ sent. sent ≡ false → self.new.core ≡ self.old.core) }
+        ensures shards { ShardsStay self.old self.new }
         ensures still { IfOk result (λ sent. sent ≡ false → self.new ≡ self.old) }
         ensures falls { IfOk result (λ sent. sent ≡ true → LessIsLeft self.old self.new) }
+        ensures flushed { IfOk result (λ sent. sent ≡ true → out.new.room.now ≡ []) }
         ensures part { OnErr result (WritesSome self.old (append_known (K.holds out.old.inner.now) out.old.room.now) (append_known (K.holds out.new.inner.now) out.new.room.now)) }
         ensures counts { OwnCounts (K.counts out.old.inner.now) (K.counts out.new.inner.now) result }
         ensures same { out.new.inner.ghost_name ≡ out.old.inner.ghost_name }
@@ -182,6 +189,7 @@ impl Engine {
         ensures writes { OnOk result (Writes self.old self.new (append_known (K.holds out.old.inner.now) out.old.room.now) (append_known (K.holds out.new.inner.now) out.new.room.now)) }
         ensures quiet { IfOk result (λ done. done ≡ false → IsQuiet self.new.core) }
         ensures mails { IfOk result (λ done. done ≡ false → has_mail self.new.core ≡ false) }
+        ensures shards { ShardsStay self.old self.new }
         ensures still { IfOk result (λ done. done ≡ false → self.new ≡ self.old) }
         ensures falls { IfOk result (λ done. done ≡ true → LessIsLeft self.old self.new) }
         ensures part { OnErr result (WritesSome self.old (append_known (K.holds out.old.inner.now) out.old.room.now) (append_known (K.holds out.new.inner.now) out.new.room.now)) }
@@ -217,7 +225,8 @@ impl Engine {
     pub fn take(&mut self, event: Event) -> Result<(), NoMemory>
         requires ready { IsReady self.old }
         requires may { may_take self.old.core (shown_event event) ≡ true }
-        ensures { OnOk result (Takes self.old self.new (shown_event event)) }
+        ensures takes { OnOk result (Takes self.old self.new (shown_event event)) }
+        ensures shards { ShardsStay self.old self.new }
     {
         match event {
             Event::Row { key, time, values } => {
@@ -241,7 +250,8 @@ impl Engine {
     fn take_watermark(&mut self, time: &i64) -> Result<(), NoMemory>
         requires ready { IsReady self.old }
         requires may { may_close self.old.core ≡ true }
-        ensures { OnOk result (Takes self.old self.new (Mark time.now)) }
+        ensures takes { OnOk result (Takes self.old self.new (Mark time.now)) }
+        ensures shards { ShardsStay self.old self.new }
     {
         if self.is_greater(time) {
             self.core.close(mark(time))

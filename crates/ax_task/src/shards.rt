@@ -112,6 +112,7 @@ impl Shards {
         ensures kinds { self.new.kinds ≡ self.old.kinds }
         ensures gives { MatchOption result (Stays (out self.old) (out self.new) (held self.old) (held self.new)) (λ back. Came (shard_count self.old) (out self.old) (out self.new) (held self.old) (held self.new) back.shard back.replies) }
         ensures none { IfNone result ((s : ℕ) → out self.new s ≡ []) }
+        ensures still { IfNone result (self.new ≡ self.old) }
         ensures next { IfSome result (λ back. IsNext self.old self.new back.shard) }
     {
         if self.sent.is_empty() {

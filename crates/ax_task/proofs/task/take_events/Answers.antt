@@ -17,7 +17,7 @@ step-init g c =
     } in
     record {
       underway = starts c.args.config.now.settings c.args.program c.in-Ok.engine c.new-reading.result c.args.lines.now from.outer
-          c.in-Ok.ensures (c.new-reading.ensures.fields ∙ c.fields.ensures.value) c.new-reading.ensures.last c.new-reading.ensures.next c.new-reading.ensures.found c.requires.sound;
+          c.in-Ok.ensures.stands (c.new-reading.ensures.fields ∙ c.fields.ensures.value) c.new-reading.ensures.last c.new-reading.ensures.next c.new-reading.ensures.found c.requires.sound;
       name = refl;
     }
 

@@ -3,7 +3,7 @@ use Rattle.std.specs.Io.KnownBytes.{Appends}
 use Rattle.ax_base.specs.Outside.{AppendsSome}
 use Rattle.ax_machine.specs.Entries.{text_of, says}
 use Rattle.ax_task.proofs.Written.{on_ok, on_err}
-use Rattle.ax_task.proofs.EngineLemmas.{same_desk, some_none, mail_writes, mail_writes_some}
+use Rattle.ax_task.proofs.EngineLemmas.{shards_stay, some_none, mail_writes, mail_writes_some}
 use Rattle.ax_task.proofs.Lesser.{mail_less}
 use Rattle.ax_task.proofs.engine.Engine.run_mail.Goals as goal
 
@@ -17,7 +17,7 @@ returns-clause-writes g c =
     let before = g.K.Sink.holds c.args.out.now in
     let behind = g.K.Sink.holds c.write_lines.new.out in
     on_ok c.write_lines.result c.write_lines.ensures.lines (λ a.
-    mail_writes c.args.self.now _ (same_desk _ _ refl refl refl) ran.sound ran.same ran.outs ran.keys f ran.event before behind
+    mail_writes c.args.self.now _ (shards_stay _ _ refl refl refl) ran.sound ran.same ran.outs ran.keys f ran.event before behind
     (subst (λ (ls : List (List ℤ)). Appends before behind (text_of (says f.key ls))) c.as_slice.ensures a))
 
 pub returns-clause-part : goal.returns-clause-part
@@ -27,7 +27,7 @@ returns-clause-part g c =
     let before = g.K.Sink.holds c.args.out.now in
     let behind = g.K.Sink.holds c.write_lines.new.out in
     on_err c.write_lines.result c.write_lines.ensures.part (λ a.
-    mail_writes_some c.args.self.now (record c.args.self.now { core = c.run_mail.new.self }) (same_desk _ _ refl refl refl) ran.sound ran.same ran.outs ran.keys f ran.event before behind
+    mail_writes_some c.args.self.now (record c.args.self.now { core = c.run_mail.new.self }) (shards_stay _ _ refl refl refl) ran.sound ran.same ran.outs ran.keys f ran.event before behind
     (subst (λ (ls : List (List ℤ)). AppendsSome before behind (text_of (says f.key ls))) c.as_slice.ensures a))
 
 pub returns-clause-falls : goal.returns-clause-falls
@@ -35,4 +35,4 @@ returns-clause-falls g c =
     let ran = c.in-Ok.ensures in
     let behind = g.K.Sink.holds c.write_lines.new.out in
     on_ok c.write_lines.result c.write_lines.ensures.lines (λ a.
-    mail_less c.args.self.now (record c.args.self.now { core = c.run_mail.new.self }) (same_desk _ _ refl refl refl) ran.same c.requires.ready c.in-Ok.effects ran.event)
+    mail_less c.args.self.now (record c.args.self.now { core = c.run_mail.new.self }) (shards_stay _ _ refl refl refl) ran.same c.requires.ready c.in-Ok.effects ran.event)

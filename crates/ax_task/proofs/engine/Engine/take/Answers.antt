@@ -9,30 +9,30 @@ use Rattle.ax_core.specs.Sound.{StandsFor}
 use Rattle.ax_core.specs.Events.{Makes}
 use Rattle.ax_task.specs.Engines.{Takes}
 use Rattle.ax_task.proofs.Things.{marker_event}
-use Rattle.ax_task.proofs.EngineLemmas.{same_desk, admit_takes, close_ok}
+use Rattle.ax_task.proofs.EngineLemmas.{shards_stay, admit_takes, close_ok}
 use Rattle.ax_task.proofs.engine.Engine.take.Goals as goal
 
-pub returns-in_ok-admit-in-Row : goal.returns-in_ok-admit-in-Row
-returns-in_ok-admit-in-Row c =
+pub returns-in_ok-admit-in-Row-clause-takes : goal.returns-in_ok-admit-in-Row-clause-takes
+returns-in_ok-admit-in-Row-clause-takes c =
     let row = c.in_ok-admit-in-Row.ensures in
     let e' = record c.args.self.now { core = c.admit.new.self } in
     let same : to_z w64 (of_z w64 c.in-Row.time) ≡ c.in-Row.time = search rules in
     subst (λ (v : CodeEvent). Takes c.args.self.now e' (shown_event v)) (sym c.in-Row.is)
-    (admit_takes c.args.self.now e' (same_desk _ _ refl refl refl) row.sound row.same row.outs row.keys c.in_ok-admit-in-Row.field-0 c.in-Row.key c.in-Row.time c.in-Row.values
+    (admit_takes c.args.self.now e' (shards_stay _ _ refl refl refl) row.sound row.same row.outs row.keys c.in_ok-admit-in-Row.field-0 c.in-Row.key c.in-Row.time c.in-Row.values
     (subst (λ (z : ℤ). (m : MachineControl) → StandsFor c.args.self.now.core m → Makes c.args.self.now.core c.admit.new.self (Admit c.in_ok-admit-in-Row.field-0 c.in-Row.key z c.in-Row.values) m) same row.event))
 
-pub returns-in-Mark : goal.returns-in-Mark
-returns-in-Mark c =
+pub returns-in-Mark-clause-takes : goal.returns-in-Mark-clause-takes
+returns-in-Mark-clause-takes c =
     let same : to_z w64 (of_z w64 c.in-Mark.time) ≡ c.in-Mark.time = search rules in
     subst (λ (v : CodeEvent). OnOk c.take_watermark.result (Takes c.args.self.now c.take_watermark.new.self (shown_event v))) (sym c.in-Mark.is)
-    (subst (λ (z : ℤ). OnOk c.take_watermark.result (Takes c.args.self.now c.take_watermark.new.self (Mark z))) same c.take_watermark.ensures)
+    (subst (λ (z : ℤ). OnOk c.take_watermark.result (Takes c.args.self.now c.take_watermark.new.self (Mark z))) same c.take_watermark.ensures.takes)
 
-pub returns-in-Barrier : goal.returns-in-Barrier
-returns-in-Barrier c =
+pub returns-in-Barrier-clause-takes : goal.returns-in-Barrier-clause-takes
+returns-in-Barrier-clause-takes c =
     let closed = c.close.ensures in
     let e' = record c.args.self.now { core = c.close.new.self } in
     let same : to_z w64 (of_z w64 c.in-Barrier.id) ≡ c.in-Barrier.id = search rules in
     subst (λ (v : CodeEvent). OnOk c.close.result (Takes c.args.self.now e' (shown_event v))) (sym c.in-Barrier.is)
     (subst (λ (z : ℤ). OnOk c.close.result (Takes c.args.self.now e' (Barrier z))) same
     (subst (λ (k : Marker). OnOk c.close.result (Takes c.args.self.now e' (marker_event k))) c.barrier.ensures
-    (close_ok c.args.self.now e' (same_desk _ _ refl refl refl) c.barrier.result c.close.result closed.sound closed.same closed.outs closed.keys closed.event)))
+    (close_ok c.args.self.now e' (shards_stay _ _ refl refl refl) c.barrier.result c.close.result closed.sound closed.same closed.outs closed.keys closed.event)))

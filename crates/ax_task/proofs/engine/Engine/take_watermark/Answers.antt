@@ -2,16 +2,16 @@ use Rattle.std.proofs.Common.{refl, sym, ap, ◌∙◌, subst, ℤ, int_lt, OnOk
 use Rattle.ax_time.specs.declared.epoch.Marker.{Marker}
 use Rattle.ax_task.specs.Engines.{Takes}
 use Rattle.ax_task.proofs.Things.{marker_event}
-use Rattle.ax_task.proofs.EngineLemmas.{same_desk, close_ok, skip_takes}
+use Rattle.ax_task.proofs.EngineLemmas.{shards_stay, close_ok, skip_takes}
 use Rattle.ax_task.proofs.engine.Engine.take_watermark.Goals as goal
 
-pub returns-then-is_greater : goal.returns-then-is_greater
-returns-then-is_greater c =
+pub returns-then-is_greater-clause-takes : goal.returns-then-is_greater-clause-takes
+returns-then-is_greater-clause-takes c =
     let closed = c.close.ensures in
     let e' = record c.args.self.now { core = c.close.new.self } in
     subst (λ (k : Marker). OnOk c.close.result (Takes c.args.self.now e' (marker_event k))) c.mark.ensures
-    (close_ok c.args.self.now e' (same_desk _ _ refl refl refl) c.mark.result c.close.result closed.sound closed.same closed.outs closed.keys closed.event)
+    (close_ok c.args.self.now e' (shards_stay _ _ refl refl refl) c.mark.result c.close.result closed.sound closed.same closed.outs closed.keys closed.event)
 
-pub returns-else-is_greater : goal.returns-else-is_greater
-returns-else-is_greater c = skip_takes c.args.self.now c.args.time.now
+pub returns-else-is_greater-clause-takes : goal.returns-else-is_greater-clause-takes
+returns-else-is_greater-clause-takes c = skip_takes c.args.self.now c.args.time.now
     (λ m h. ap (λ (w : ℤ). int_lt w c.args.time.now) (sym h.stands.wm) ∙ (sym c.is_greater.ensures ∙ c.if-is_greater.false))
