@@ -1,9 +1,10 @@
 -- A task comes closer to its end with each step, and where nothing can be done it has ended.
-use Rattle.std.proofs.Common.{◌≡◌, ◌<◌, ◌≤◌, ℕ, false, Option, Some, None, IsSome, IfSome, refl, sym, ap, ◌∙◌, subst, arith}
+use Rattle.std.proofs.Common.{◌≡◌, ◌<◌, ◌≤◌, false, Option, Some, None, IsSome, IfSome, refl, sym, ap, ◌∙◌, subst, arith}
 use Rattle.ax_base.specs.Reader.{Reader}
+use Rattle.ax_base.specs.declared.outside.SinkFault.{SinkFault}
+use Rattle.ax_base.specs.declared.outside.SinkFault.TheVariants as sink
 use Rattle.ax_input.specs.declared.event.Event.{Event as CodeEvent}
 use Rattle.ax_execution.specs.MachineControls.{MachineControl, control_of_machine, in_flight_on}
-use Rattle.ax_lang.specs.declared.program.Program.{Program}
 use Rattle.ax_core.specs.declared.settings.Settings.{Settings}
 use Rattle.ax_core.specs.declared.controller.Controller.{Controller}
 use Rattle.ax_core.specs.May.{has_mail}
@@ -11,13 +12,15 @@ use Rattle.ax_core.specs.Sound.{StandsFor}
 use Rattle.ax_task.specs.Engines.{IsReady, IsQuiet, MovesOn}
 use Rattle.ax_task.specs.Exchanged.{NothingWaits}
 use Rattle.ax_task.specs.Due.{IsFree, one_held, unread, due, IsLooked, Goes}
-use Rattle.ax_task.specs.Tasks.{Outer, From, IsUnderway, IsOnItsWay, MayRead, EndsWell}
+use Rattle.ax_task.specs.Reads.{sink_end}
+use Rattle.ax_task.specs.Causes.{IsAtRest}
+use Rattle.ax_task.specs.Tasks.{EndsWell}
 use Rattle.ax_task.specs.declared.end.End.{End}
 use Rattle.ax_task.specs.declared.end.End.TheVariants as end
 use Rattle.ax_task.specs.declared.engine.Engine.{Engine}
 use Rattle.ax_task.specs.declared.reading.Reading.{Reading}
-use Rattle.ax_task.specs.declared.task.Step.{Step}
-use Rattle.ax_task.specs.declared.task.Step.TheVariants as step
+use Rattle.ax_task.specs.declared.driver.Did.{Did}
+use Rattle.ax_task.specs.declared.driver.Did.TheVariants as did
 use Rattle.ax_task.proofs.Idle.{none_in_flight, none_unsent, none_idle}
 use Rattle.ax_task.proofs.TaskLemmas.{ended_well}
 
@@ -30,14 +33,14 @@ took_due r r' lines event was none found =
     omega (arith, before, behind, rest)
 
 -- a step from what is the same
-pub goes_as : (e d e' : Engine) (r q r' : Reading) (lines lines' : Reader) (s : Step) → d ≡ e → q ≡ r → Goes d e' q r' lines lines' s → Goes e e' r r' lines lines' s
+pub goes_as : (e d e' : Engine) (r q r' : Reading) (lines lines' : Reader) (s : Did) → d ≡ e → q ≡ r → Goes d e' q r' lines lines' s → Goes e e' r r' lines lines' s
 goes_as e d e' r q r' lines lines' s x y h = subst (λ (f : Engine). Goes f e' r r' lines lines' s) x (subst (λ (t : Reading). Goes d e' t r' lines lines' s) y h)
 
 -- a step behind a look
-pub goes_behind : (e e' : Engine) (r q r' : Reading) (lines lines' : Reader) (s : Step) → due q lines' ≤ due r lines → Goes e e' q r' lines' lines' s → Goes e e' r r' lines lines' s
-goes_behind e e' r q r' lines lines' step.Went l h = (h.0, omega (arith, l, h.1))
-goes_behind e e' r q r' lines lines' step.Took l h = omega (arith, l, h)
-goes_behind e e' r q r' lines lines' (step.End end) l h = tt
+pub goes_behind : (e e' : Engine) (r q r' : Reading) (lines lines' : Reader) (s : Did) → due q lines' ≤ due r lines → Goes e e' q r' lines' lines' s → Goes e e' r r' lines lines' s
+goes_behind e e' r q r' lines lines' did.Went l h = (h.0, omega (arith, l, h.1))
+goes_behind e e' r q r' lines lines' did.Took l h = omega (arith, l, h)
+goes_behind e e' r q r' lines lines' (did.End end) l h = tt
 
 -- where nothing can be done
 module _ (e : Engine) (r : Reading) (ready : IsReady e) (quiet : IsQuiet e.core) (mails : has_mail e.core ≡ false) (waits : NothingWaits e) (blocked : IfSome r.next (λ (x : CodeEvent). IsFree e.core → ⊥)) where
@@ -65,29 +68,31 @@ module _ (e : Engine) (r : Reading) (ready : IsReady e) (quiet : IsQuiet e.core)
   pub ends_well : (end : End) → r.found ≡ Some end → EndsWell e r end
   ends_well end found s p from lines now x = ended_well s p from e r lines now x end found none_held quiet none_left
 
-  pub cant_be : IsLooked r → r.found ≡ None → EndsWell e r end.NoMemory
-  cant_be looked none = absurd (of r.found none (looked none_held))
+  pub at_rest : (end : End) → r.found ≡ Some end → IsAtRest e.core r.found end
+  at_rest end.Ok found = (found, is_free)
+  at_rest (end.Input line kind) found = (found, is_free)
+  at_rest end.Read found = (found, is_free)
+  at_rest end.Write found = tt
+  at_rest end.NoMemory found = tt
+  at_rest (end.Program line kind) found = tt
+
+  pub cant_be : IsLooked r → r.found ≡ None → ⊥
+  cant_be looked none = of r.found none (looked none_held)
     where
       of : (o : Option End) → o ≡ None → IsSome o → ⊥
       of None e h = cc h
       of (Some x) e h = cc e
 
--- somewhere on its way
-pub ready_there : (e : Engine) (r : Reading) (lines : Reader) (now : Outer) → IsOnItsWay e r lines now → IsReady e
-ready_there e r lines now w = record { settings = w.settings; program = w.program; read = w.underway.read; written = w.underway.written; stands = w.underway.stands }
-
-pub may_there : (e : Engine) (r : Reading) (lines : Reader) (now : Outer) → IsOnItsWay e r lines now → MayRead lines r.found
-may_there e r lines now w = w.underway.has_read.may
-
-pub way_on : (e : Engine) (r : Reading) (lines : Reader) (now : Outer) (e' : Engine) (r' : Reading) (lines' : Reader) (now' : Outer) → IsOnItsWay e r lines now
-    → ((s : Settings) (p : Program) (from : From) → IsUnderway s p from e r lines now → IsUnderway s p from e' r' lines' now') → IsOnItsWay e' r' lines' now'
-way_on e r lines now e' r' lines' now' w on = record { settings = w.settings; program = w.program; from = w.from; underway = on w.settings w.program w.from w.underway }
+-- at the ends by a sink's fault and by want of memory nothing need be at rest
+pub sink_rest : (a : Controller) (found : Option End) (f : SinkFault) (e : End) → e ≡ sink_end f → IsAtRest a found e
+sink_rest a found f e is = subst (IsAtRest a found) (sym is) (of f)
+  where
+    of : (f : SinkFault) → IsAtRest a found (sink_end f)
+    of sink.Failed = tt
+    of sink.NoMemory = tt
 
 pub moved_ready : (e e' : Engine) → MovesOn e e' → IsReady e → IsReady e'
 moved_ready e e' on x = record { settings = x.settings; program = x.program; read = x.read; written = x.written; stands = on x.settings x.program x.read x.written x.stands }
 
 pub blocked_as : (a b : Controller) (o : Option CodeEvent) → b ≡ a → IfSome o (λ (x : CodeEvent). IsFree a → ⊥) → IfSome o (λ (x : CodeEvent). IsFree b → ⊥)
 blocked_as a b o e h = subst (λ (c : Controller). IfSome o (λ (x : CodeEvent). IsFree c → ⊥)) (sym e) h
-
-pub no_more : (a b c : ℕ) → a ≤ b → b ≤ c → a ≤ c
-no_more a b c h k = omega (arith, h, k)

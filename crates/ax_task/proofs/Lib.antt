@@ -29,3 +29,4 @@ pub mod Sending
 pub mod Idle
 pub mod Lesser
 pub mod Going
+pub mod Running

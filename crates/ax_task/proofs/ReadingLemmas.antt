@@ -9,7 +9,7 @@ use Rattle.ax_task.specs.Parse.{Stream, Clean, ends}
 use Rattle.ax_task.specs.Reads.{NextOf}
 use Rattle.ax_task.specs.Passes.{events_at, SomePassed, NextPasses}
 use Rattle.ax_task.specs.Known.{Knows, IsInputEnd}
-use Rattle.ax_task.specs.Tasks.{held_events, From, FoundCounts, IsFound, MayRead, HasRead, ReadsOn, ReadsShort}
+use Rattle.ax_task.specs.Tasks.{held_events, From, FoundCounts, IsFound, Finds, MayRead, HasRead, ReadsOn, ReadsShort}
 use Rattle.ax_task.specs.declared.end.End.{End}
 use Rattle.ax_task.specs.declared.end.End.TheVariants as end
 use Rattle.ax_task.specs.declared.read_fault.ReadFault.TheVariants as read
@@ -84,3 +84,16 @@ module _ (r r' : Reading) (lines lines' : Reader) (l l' : Option (List ℕ)) (re
 -- nothing is looked for
 pub reads_none : (r : Reading) (lines : Reader) (l : Option (List ℕ)) (reads : ℕ) → ReadsOn r r lines lines l l reads reads
 reads_none r lines l reads from taken h = h
+
+-- nothing more was read
+pub finds_same : (o : Option End) (l : Option (List ℕ)) (n : ℕ) → Finds o o l l n n
+finds_same None l n = (tt, refl)
+finds_same (Some e) l n = (refl, refl, refl)
+
+-- the first look that finds an end
+pub finds_first : (o found : Option End) (l l' : Option (List ℕ)) (n n' : ℕ) → o ≡ None → IsFound found → FoundCounts n n' found → Finds o found l l' n n'
+finds_first o found l l' n n' is f c = subst (λ (d : Option End). Finds d found l l' n n') (sym is) (f, c)
+
+-- no end was found
+pub finds_none : (o : Option End) (l l' : Option (List ℕ)) (n n' : ℕ) → o ≡ None → n' ≡ n → Finds o o l l' n n'
+finds_none o l l' n n' is c = subst (λ (d : Option End). Finds d d l l' n n') (sym is) (tt, c)

@@ -17,7 +17,7 @@ use Rattle.ax_core.specs.declared.settings.Settings.{Settings}
 use Rattle.ax_execution.specs.MachineControls.{MachineControl, in_flight_on}
 use Rattle.ax_core.specs.Sound.{StandsFor}
 use Rattle.ax_task.specs.Clause.{WritesLawful, WritesPart, StreamEnds, EndCounts, MayRise}
-use Rattle.ax_task.specs.Parse.{Stream, first_last}
+use Rattle.ax_task.specs.Parse.{Stream}
 use Rattle.ax_task.specs.Reads.{sink_end}
 use Rattle.ax_task.specs.Passes.{events_at, Taken, Took}
 use Rattle.ax_task.specs.Passes as passes
@@ -30,7 +30,6 @@ use Rattle.ax_task.specs.declared.engine.Engine.{Engine}
 use Rattle.ax_task.specs.declared.reading.Reading.{Reading}
 use Rattle.ax_task.proofs.Written.{AppendsSome-behind}
 use Rattle.ax_task.proofs.EngineLemmas.{some_none, rest_is_whole}
-use Rattle.ax_task.proofs.Progress.{stops_once}
 use Rattle.ax_task.proofs.Knowing.{known_first, known_taken, ends_found, stops_found}
 
 -- how often reading failed, where memory is short or writing failed
@@ -179,9 +178,9 @@ pub same_underway : (s : Settings) (p : Program) (from : From) (e e' : Engine) (
 same_underway s p from e e' r r' lines now h x = subst (λ (d : Engine). IsUnderway s p from d r' lines now) (sym h.0) (subst (λ (q : Reading). IsUnderway s p from e q lines now) (sym h.1) x)
 
 -- before the first step
-pub starts : (s : Settings) (p : Program) (e : Engine) (r : Reading) (lines : Reader) (now : Outer) → Stands s p e [] [] → r.events.fields ≡ (shown_program p).fields → r.events.last ≡ first_last → r.next ≡ None → r.found ≡ None → lines.failed ≡ false
-    → IsUnderway s p (record { means = events_at (shown_program p).fields first_last lines; held = lines.held; outer = now }) e r lines now
-starts s p e r lines now x fields last next found may = record {
+pub starts : (s : Settings) (p : Program) (first : ℤ) (e : Engine) (r : Reading) (lines : Reader) (now : Outer) → Stands s p e [] [] → r.events.fields ≡ (shown_program p).fields → r.events.last ≡ first → r.next ≡ None → r.found ≡ None → lines.failed ≡ false
+    → IsUnderway s p (record { means = events_at (shown_program p).fields first lines; held = lines.held; outer = now }) e r lines now
+starts s p first e r lines now x fields last next found may = record {
   read = [];
   written = [];
   stands = x;
@@ -191,7 +190,7 @@ starts s p e r lines now x fields last next found may = record {
         subst (λ (o : Option End). Told now.left now.left (λ a b. Knows F (events_at r.events.fields r.events.last lines) ([] ++ held_events r.next) (record { held = lines.held; left = a }) (record { held = lines.held; left = b }) o)) (sym found)
         (subst (λ (o : Option CodeEvent). Told now.left now.left (λ a b. Knows F (events_at r.events.fields r.events.last lines) ([] ++ held_events o) (record { held = lines.held; left = a }) (record { held = lines.held; left = b }) None)) (sym next)
         (subst (λ (n : ℤ). Told now.left now.left (λ a b. Knows F (events_at r.events.fields n lines) [] (record { held = lines.held; left = a }) (record { held = lines.held; left = b }) None)) (sym last)
-        (subst (λ (n : ℕ). Told now.left now.left (λ a b. Knows F (events_at n first_last lines) [] (record { held = lines.held; left = a }) (record { held = lines.held; left = b }) None)) (sym fields)
+        (subst (λ (n : ℕ). Told now.left now.left (λ a b. Knows F (events_at n first lines) [] (record { held = lines.held; left = a }) (record { held = lines.held; left = b }) None)) (sym fields)
         (known_first F lines.held now.left))));
     found = subst IsFound (sym found) tt;
     counts = subst (FoundCounts now.reads now.reads) (sym found) refl;
@@ -201,16 +200,4 @@ starts s p e r lines now x fields last next found may = record {
 }
   where
     F : List ℕ → Stream
-    F = events_at (shown_program p).fields first_last lines
-
-told_unit : (l : Option (List ℕ)) → Told l l (λ a b. Unit {0})
-told_unit None = tt
-told_unit (Some a) = tt
-
--- memory was short before the first step
-pub ends_at_once : (s : Settings) (p : Program) (lines : Reader) (now : Outer) → HasEnded s p (record { means = events_at (shown_program p).fields first_last lines; held = lines.held; outer = now }) now end.NoMemory
-ends_at_once s p lines now = record {
-  told = told_unit now.left;
-  stopped = stops_once s.groups s.serial (shown_program p) (events_at (shown_program p).fields first_last lines) lines.held now.left now.holds;
-  counts = (inl refl, refl, inl refl);
-}
+    F = events_at (shown_program p).fields first lines

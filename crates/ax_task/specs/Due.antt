@@ -10,8 +10,8 @@ use Rattle.ax_task.specs.Exchanged.{LessIsLeft}
 use Rattle.ax_task.specs.declared.end.End.{End}
 use Rattle.ax_task.specs.declared.engine.Engine.{Engine}
 use Rattle.ax_task.specs.declared.reading.Reading.{Reading}
-use Rattle.ax_task.specs.declared.task.Step.{Step}
-use Rattle.ax_task.specs.declared.task.Step.TheVariants as step
+use Rattle.ax_task.specs.declared.driver.Did.{Did}
+use Rattle.ax_task.specs.declared.driver.Did.TheVariants as did
 
 -- nothing is in flight, no key is idle and no marker is to be sent
 pub record IsFree (a : Controller) : Type 0 where
@@ -39,8 +39,8 @@ due r lines = one_held r.next + unread r.found lines.limit
 abbrev pub IsLooked : Reading → Type 0
 IsLooked r = r.next ≡ None → IsSome r.found
 
--- what a step comes closer to its end by
-abbrev pub Goes : Engine → Engine → Reading → Reading → Reader → Reader → Step → Type 0
-Goes e e' r r' lines lines' step.Went = LessIsLeft e e' × (due r' lines' ≤ due r lines)
-Goes e e' r r' lines lines' step.Took = due r' lines' < due r lines
-Goes e e' r r' lines lines' (step.End end) = Unit {0}
+-- what comes closer to its end by what was done
+abbrev pub Goes : Engine → Engine → Reading → Reading → Reader → Reader → Did → Type 0
+Goes e e' r r' lines lines' did.Went = LessIsLeft e e' × (due r' lines' ≤ due r lines)
+Goes e e' r r' lines lines' did.Took = due r' lines' < due r lines
+Goes e e' r r' lines lines' (did.End end) = Unit {0}

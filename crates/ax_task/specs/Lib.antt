@@ -15,3 +15,6 @@ pub mod HeldKeys
 pub mod Snapped
 pub mod Exchanged
 pub mod Due
+pub mod Unused
+pub mod Causes
+pub mod Running

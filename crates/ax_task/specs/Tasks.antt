@@ -19,8 +19,8 @@ use Rattle.ax_task.specs.declared.end.End.{End}
 use Rattle.ax_task.specs.declared.end.End.TheVariants as end
 use Rattle.ax_task.specs.declared.engine.Engine.{Engine}
 use Rattle.ax_task.specs.declared.reading.Reading.{Reading}
-use Rattle.ax_task.specs.declared.task.Step.{Step}
-use Rattle.ax_task.specs.declared.task.Step.TheVariants as step
+use Rattle.ax_task.specs.declared.driver.Did.{Did}
+use Rattle.ax_task.specs.declared.driver.Did.TheVariants as did
 
 -- the event that was read and not taken
 abbrev pub held_events : Option CodeEvent → List Event
@@ -54,6 +54,11 @@ FoundCounts before now (Some end.NoMemory) = now ≡ before
 abbrev pub IsFound : Option End → Type 0
 IsFound None = Unit {0}
 IsFound (Some e) = IsInputEnd e
+
+-- what a step found at the input: an end of it or nothing, by which the count of its faults is told. Behind an end nothing more is read
+abbrev pub Finds : Option End → Option End → Option (List ℕ) → Option (List ℕ) → ℕ → ℕ → Type 0
+Finds None found left left' before now = IsFound found × FoundCounts before now found
+Finds (Some e) found left left' before now = (found ≡ Some e) × (left' ≡ left) × (now ≡ before)
 
 -- the reader may be asked on, unless an end was found
 abbrev pub MayRead : Reader → Option End → Type 0
@@ -90,14 +95,14 @@ pub record HasEnded (s : Settings) (p : Program) (from : From) (now : Outer) (e 
   pub stopped : (done : List Event) × Told from.outer.left now.left (λ a b. Took done from.means (record { held = from.held; left = a }) b e) × Wrote s.groups s.serial (shown_program p) done (record { old = from.outer.holds; new = now.holds }) e
   pub counts : EndCounts (record { reads = from.outer.reads; writes = from.outer.writes }) (record { reads = now.reads; writes = now.writes }) e
 
--- a step went on, or ended the run
-abbrev pub StepLeaves : Settings → Program → From → Engine → Reading → Reader → Outer → Step → Type 0
-StepLeaves s p from e r lines now step.Went = IsUnderway s p from e r lines now
-StepLeaves s p from e r lines now step.Took = IsUnderway s p from e r lines now
-StepLeaves s p from e r lines now (step.End end) = HasEnded s p from now end
+-- what was done went on, or ended the run
+abbrev pub StepLeaves : Settings → Program → From → Engine → Reading → Reader → Outer → Did → Type 0
+StepLeaves s p from e r lines now did.Went = IsUnderway s p from e r lines now
+StepLeaves s p from e r lines now did.Took = IsUnderway s p from e r lines now
+StepLeaves s p from e r lines now (did.End end) = HasEnded s p from now end
 
-abbrev pub Steps : Engine → Engine → Reading → Reading → Reader → Reader → Outer → Outer → Step → Type 0
-Steps e e' r r' lines lines' old now step = (s : Settings) (p : Program) (from : From) → IsUnderway s p from e r lines old → StepLeaves s p from e' r' lines' now step
+abbrev pub Steps : Engine → Engine → Reading → Reading → Reader → Reader → Outer → Outer → Did → Type 0
+Steps e e' r r' lines lines' old now did = (s : Settings) (p : Program) (from : From) → IsUnderway s p from e r lines old → StepLeaves s p from e' r' lines' now did
 
 -- the event that was held was taken
 pub record TakesHeld (e e' : Engine) (r r' : Reading) : Type 0 where
@@ -107,18 +112,6 @@ pub record TakesHeld (e e' : Engine) (r r' : Reading) : Type 0 where
   pub events : r'.events ≡ r.events
   pub found : r'.found ≡ r.found
   pub takes : Takes e e' (shown_event event)
-
--- a round takes an event, or the run has ended
-abbrev pub round_step : Option End → Step
-round_step None = step.Took
-round_step (Some end) = step.End end
-
--- a task is somewhere on its way
-pub record IsOnItsWay (e : Engine) (r : Reading) (lines : Reader) (now : Outer) : Type 0 where
-  pub settings : Settings
-  pub program : Program
-  pub from : From
-  pub underway : IsUnderway settings program from e r lines now
 
 -- wherever the task is, it has ended so
 abbrev pub EndsWell : Engine → Reading → End → Type 0

@@ -7,9 +7,10 @@ ghost use Rattle.ax_input.specs.Shown.{shown_event};
 ghost use Rattle.ax_execution.specs.MachineControls.{MachineControl};
 ghost use Rattle.ax_execution.specs.ControlsAllowed.{FirstIsFinishedOn};
 ghost use Rattle.ax_core.specs.May.{may_fire, may_close, has_mail};
-ghost use Rattle.ax_core.specs.Sound.{InRange, StandsFor};
+ghost use Rattle.ax_core.specs.Sound.{StandsFor};
 ghost use Rattle.ax_task.specs.Exchanged.{LessIsLeft};
 ghost use Rattle.ax_task.specs.Due.{IsFree};
+ghost use Rattle.ax_task.specs.Unused.{IsUnused, program_of};
 ghost use Rattle.ax_task.specs.Engines.{Stands, ShardsStay, batch_of, order_of, IsReady, MovesOn, Takes, Writes, WritesSome, IsQuiet, WroteMarker, WritesPart, may_take};
 
 use crate::config::Config;
@@ -18,7 +19,6 @@ use crate::shards::Shards;
 use ax_base::{Begun, Gather, NoMemory, Nums, Sink, SinkFault, write_all};
 use ax_core::{Controller, Marker, Settings};
 use ax_input::Event;
-use ax_lang::Program;
 use std::alloc::Global;
 
 // The marker of a watermark.
@@ -49,22 +49,23 @@ pub struct Engine {
 impl Engine {
     /// Nothing was taken yet. By `order` the batches are chosen that are served.
     ///
-    /// Conditions: the settings are in their ranges, and contexts and requests have some room.
+    /// Conditions: the controller was made with the settings, and nothing was admitted or closed in it. Contexts and requests have
+    /// some room.
     pub fn new(
         alloc: Global,
         config: &Config,
-        program: Program,
+        core: Controller,
         order: Nums,
     ) -> Result<Engine, NoMemory>
-        requires ranges { InRange config.now.settings }
+        requires unused { IsUnused config.now.settings core }
         requires contexts { 0 < config.now.settings.in_flight }
         requires batch { 0 < config.now.batch }
-        ensures stands { IfOk result (λ e. Stands config.now.settings program e [] []) }
+        ensures stands { IfOk result (λ e. Stands config.now.settings (program_of core) e [] []) }
         ensures batch { IfOk result (λ e. batch_of e ≡ config.now.batch) }
         ensures order { IfOk result (λ e. order_of e ≡ order) }
+        ensures core { IfOk result (λ e. e.core ≡ core) }
     {
-        let shards = Shards::new(alloc, config.settings.shards, program.decls(), order)?;
-        let core = Controller::new(alloc, program, config.settings)?;
+        let shards = Shards::new(alloc, config.settings.shards, core.program().decls(), order)?;
         Ok(Engine {
             alloc,
             settings: config.settings,

@@ -1,8 +1,7 @@
 //! The event that was read and not yet taken, and what the reader of events found behind the last.
 ghost use Rattle.std.specs.Prelude.{◌≡◌, ◌≤◌, None, false, OnOk, OnErr};
-ghost use Rattle.ax_task.specs.Parse.{first_last};
 ghost use Rattle.ax_task.specs.Due.{due, IsLooked};
-ghost use Rattle.ax_task.specs.Tasks.{MayRead, ReadsOn, ReadsShort};
+ghost use Rattle.ax_task.specs.Tasks.{Finds, MayRead, ReadsOn, ReadsShort};
 
 use crate::end::End;
 use crate::read_fault::ReadFault;
@@ -22,15 +21,15 @@ pub struct Reading {
 }
 
 impl Reading {
-    /// Nothing was read yet.
-    pub fn new(alloc: Global, fields: u8) -> Reading
+    /// Nothing was read yet. A row has so many values, and `last` is the greatest ID of the barriers before.
+    pub fn new(alloc: Global, fields: u8, last: &i64) -> Reading
         ensures fields { result.events.fields ≡ fields }
-        ensures last { result.events.last ≡ first_last }
+        ensures last { result.events.last ≡ last.now }
         ensures next { result.next ≡ None }
         ensures found { result.found ≡ None }
     {
         Reading {
-            events: EventReader::new(alloc, fields),
+            events: EventReader::new(alloc, fields, last),
             next: None,
             found: None,
         }
@@ -50,6 +49,7 @@ impl Reading {
         ensures due { OnOk result (due self.new lines.new ≤ due self.old lines.old) }
         ensures short { OnErr result (ReadsShort self.old lines.old (S.left input.old) (S.left input.new) (S.faults input.old)) }
         ensures count { OnErr result (S.faults input.new ≡ S.faults input.old) }
+        ensures finds { Finds self.old.found self.new.found (S.left input.old) (S.left input.new) (S.faults input.old) (S.faults input.new) }
     {
         if self.next.is_some() || self.found.is_some() {
             return Ok(());
@@ -73,6 +73,7 @@ impl Reading {
         ensures due { OnOk result (due self.new lines.new ≤ due self.old lines.old) }
         ensures short { OnErr result (ReadsShort self.old lines.old (S.left input.old) (S.left input.new) (S.faults input.old)) }
         ensures count { OnErr result (S.faults input.new ≡ S.faults input.old) }
+        ensures finds { Finds self.old.found self.new.found (S.left input.old) (S.left input.new) (S.faults input.old) (S.faults input.new) }
     {
         match self.events.next(alloc, lines, input) {
             Ok(Some(event)) => {

@@ -4,7 +4,7 @@ ghost use Rattle.ax_base.specs.Outside.{Told};
 ghost use Rattle.ax_base.specs.Given.{ahead};
 ghost use Rattle.ax_input.specs.Events.{event_of, is_skipped};
 ghost use Rattle.ax_input.specs.Shown.{shown_event};
-ghost use Rattle.ax_task.specs.Parse.{stream_of, in_order, is_late, last_after, first_last};
+ghost use Rattle.ax_task.specs.Parse.{stream_of, in_order, is_late, last_after};
 ghost use Rattle.ax_task.specs.Reads.{NextOf, ReaderCount, kind_number, line_fault, ReadsInOrder, last_behind};
 ghost use Rattle.ax_task.specs.Passes.{events_at, feed_of, NextPasses};
 
@@ -45,8 +45,7 @@ fn fault_at(line: u64, kind: Option<u8>) -> ReadFault
     }
 }
 
-/// The reader of events: how many values a row has, the greatest ID of the barriers that it gave, at first 0, and room for the text
-/// of a line.
+/// The reader of events: how many values a row has, the greatest ID of the barriers before, and room for the text of a line.
 #[derive(Drop)]
 pub struct EventReader {
     pub fields: u8,
@@ -56,13 +55,13 @@ pub struct EventReader {
 
 impl EventReader {
     /// No event was read yet.
-    pub fn new(alloc: Global, fields: u8) -> EventReader
+    pub fn new(alloc: Global, fields: u8, last: &i64) -> EventReader
         ensures fields { result.fields ≡ fields }
-        ensures last { result.last ≡ first_last }
+        ensures last { result.last ≡ last.now }
     {
         EventReader {
             fields,
-            last: 0,
+            last: *last,
             room: Bytes::new(alloc),
         }
     }

@@ -1,44 +1,48 @@
-//! A whole run: the program section, then the events, step by step.
-ghost use Rattle.std.specs.Prelude.{◌≡◌, ◌<◌, ◌+◌, true, false, IfOk, IfSome, Option, List, ℕ};
+//! A run, step by step: a task behind the program section, and a whole run.
+ghost use Rattle.std.specs.Prelude.{◌≡◌, ◌≢◌, ◌<◌, ◌+◌, true, false, IfOk, IfNone, Option, None, List, ℕ};
 ghost use Rattle.std.specs.Io.KnownBytes.{append_known};
-ghost use Rattle.ax_base.specs.Outside.{Counts, Told};
+ghost use Rattle.ax_base.specs.Gathered.{Begins};
+ghost use Rattle.ax_base.specs.Outside.{Told};
 ghost use Rattle.ax_base.specs.Given.{ahead};
+ghost use Rattle.ax_base.specs.Reader.{Reader};
 ghost use Rattle.ax_machine.specs.Events as shown;
+ghost use Rattle.ax_lang.specs.declared.program.Program.{Program as CodeProgram};
 ghost use Rattle.ax_lang.specs.Shown.{shown_program};
+ghost use Rattle.ax_core.specs.declared.settings.Settings.{Settings as AnySettings};
+ghost use Rattle.ax_core.specs.declared.controller.Controller.{Controller as AnyController};
 ghost use Rattle.ax_core.specs.Sound.{InRange};
 ghost use Rattle.ax_task.specs.Parse.{parse, stream_of, first_last};
-ghost use Rattle.ax_task.specs.Reads.{sink_end, end_in_section, is_stopped};
+ghost use Rattle.ax_task.specs.Reads.{end_in_section};
 ghost use Rattle.ax_task.specs.Clause.{WritesLawful, StreamEnds, RunEnds, Stops, EndCounts};
 ghost use Rattle.ax_task.specs.Passes.{events_at, feed_of, Took, Wrote};
-ghost use Rattle.ax_core.specs.May.{has_mail};
-ghost use Rattle.ax_task.specs.Engines.{IsReady, IsQuiet};
-ghost use Rattle.ax_task.specs.Exchanged.{NothingWaits};
-ghost use Rattle.ax_task.specs.Due.{IsFree, IsLooked, Goes};
-ghost use Rattle.ax_task.specs.Tasks.{Outer, MayRead, Steps, TakesHeld, HasEnded, IsOnItsWay, EndsWell, round_step};
+ghost use Rattle.ax_task.specs.Engines.{IsReady};
+ghost use Rattle.ax_task.specs.Due.{Goes, due};
+ghost use Rattle.ax_task.specs.Tasks.{Outer, From, MayRead, Finds, HasEnded};
+ghost use Rattle.ax_task.specs.Tasks as tasks;
+ghost use Rattle.ax_task.specs.Causes.{IsAtRest, EndsAtRest, EndIsCaused};
+ghost use Rattle.ax_task.specs.Unused.{IsUnused, program_of};
+ghost use Rattle.ax_task.specs.Running.{state_of, has_ended, found_of, controller_of, took_event, start, IsRunning, IsOnItsWay, DidLeaves, GoesOn, ComesNearer, is_end, step_of, RunEndsAs};
+ghost use Rattle.ax_task.specs.declared.end.End.{End as AnyEnd};
+ghost use Rattle.ax_task.specs.declared.engine.Engine.{Engine as AnyEngine};
+ghost use Rattle.ax_task.specs.declared.reading.Reading.{Reading as AnyReading};
 
 use crate::config::Config;
+use crate::driver::{Did, Driver, end_of, is_stopped};
 use crate::end::End;
 use crate::engine::Engine;
 use crate::read_fault::ReadFault;
 use crate::reading::Reading;
 use crate::section::gather;
-use ax_base::{Begun, Gather, Lines, NoMemory, Nums, Room, Sink, SinkFault, Source};
+use crate::step::Step;
+use ax_base::{Begun, Gather, Lines, NoMemory, Nums, Room, Sink, Source};
+use ax_core::Controller;
 use ax_lang::{ProgFault, Program, read_program};
 use std::alloc::Global;
 use std::marker::Brand;
+use std::mem;
 
 // The most bytes of an input.
 const MOST_BYTES: u64 = 1 << 40;
-
-// The end of a run at a fault of its sink.
-fn end_of(fault: SinkFault) -> End
-    ensures { result ≡ sink_end fault }
-{
-    match fault {
-        SinkFault::Failed => End::Write,
-        SinkFault::NoMemory => End::NoMemory,
-    }
-}
 
 // The end of a run at a fault of the section.
 fn end_in_section(fault: ReadFault) -> End
@@ -51,263 +55,261 @@ fn end_in_section(fault: ReadFault) -> End
     }
 }
 
-// Whether nothing more is written behind this end.
-fn is_stopped(end: &End) -> bool
-    ensures { result ≡ is_stopped end.now }
-{
-    matches!(end, End::Write | End::NoMemory)
-}
-
-/// What a step of a task did.
-#[derive(Clone, Copy, Debug, PartialEq, Eq)]
-enum Step {
-    /// One thing was done for the events that were taken.
-    Went,
-    /// An event was taken.
-    Took,
-    /// The run has ended.
-    End { end: End },
-}
-
-/// A run behind the program section: the controller with its shards, and what was read and isn't taken.
+/// A run behind the program section, which goes by steps. It has read some events, taken those that came before the one that it
+/// holds, if any, and written or gathered lines of them.
 #[derive(Drop)]
-struct Task {
-    alloc: Global,
-    engine: Engine,
-    reading: Reading,
+pub struct Task {
+    driver: Driver,
+    lines: Lines,
+    // What is gathered and isn't written.
+    room: Room,
+    // A sink that gathers begins with an empty room: this one, in place of which it then gets the other.
+    spare: Room,
+    // Whether the last step took an event.
+    took: bool,
+    ended: bool,
 }
 
 impl Task {
-    // Takes the event that is held, where there is one and it can be taken. Whether it was.
-    fn take_held(&mut self) -> Result<bool, NoMemory>
-        requires ready { IsReady self.old.engine }
-        ensures taken { IfOk result (λ taken. taken ≡ true → TakesHeld self.old.engine self.new.engine self.old.reading self.new.reading) }
-        ensures same { IfOk result (λ taken. taken ≡ false → (self.new.engine ≡ self.old.engine) × (self.new.reading ≡ self.old.reading)) }
-        ensures blocked { IfOk result (λ taken. taken ≡ false → IfSome self.new.reading.next (λ _. IsFree self.new.engine.core → ⊥)) }
+    /// A task that has taken nothing yet. `lines` gives the lines behind the program section, and `last_id` is the greatest ID of the
+    /// barriers before them, 0 where there was none. `order` says which of the batches that are out is served next, as for
+    /// `run_task_alone`. It takes the rooms for what is gathered, 65,536 bytes each. The only fault is `NoMemory`.
+    ///
+    /// Conditions: the controller was made with the settings of `c`, and nothing was admitted or closed in it; `lines` has not
+    /// failed; contexts and batches have some room.
+    pub fn new(
+        alloc: Global,
+        c: &Config,
+        core: Controller,
+        lines: Lines,
+        last_id: i64,
+        order: Nums,
+    ) -> Result<Task, NoMemory>
+        requires unused { IsUnused c.now.settings core }
+        requires sound { lines.failed ≡ false }
+        requires contexts { 0 < c.now.settings.in_flight }
+        requires batch { 0 < c.now.batch }
+        ensures begins { IfOk result (λ t. (p : CodeProgram) (now : Outer) → program_of core ≡ p → IsRunning c.now.settings p (start p last_id lines now) (state_of t) now) }
+        ensures found { IfOk result (λ t. found_of t ≡ None) }
+        ensures ended { IfOk result (λ t. has_ended t ≡ false) }
+        ensures core { IfOk result (λ t. controller_of t ≡ core) }
     {
-        let Some(event) = self.reading.next.take() else {
-            return Ok(false);
-        };
-        if !self.engine.may_take(&event) {
-            self.reading.next = Some(event);
-            return Ok(false);
-        }
-        self.engine.take(event)?;
-        Ok(true)
+        let reading = Reading::new(alloc, core.program().fields(), &last_id);
+        let engine = Engine::new(alloc, c, core, order)?;
+        let room = Room::new(alloc)?;
+        let spare = Room::new(alloc)?;
+        Ok(Task {
+            driver: Driver {
+                alloc,
+                engine,
+                reading,
+            },
+            lines,
+            room,
+            spare,
+            took: false,
+            ended: false,
+        })
     }
 
-    // What is left to do for the events that were taken, or nothing.
-    fn work_on<S: Source, K: Sink, B: Begun>(
-        &mut self,
-        lines: &mut Lines,
-        input: &mut S,
-        out: &mut Gather<'_, K, B>,
-    ) -> Step
-        requires ready { IsReady self.old.engine }
-        requires may { MayRead lines.old self.old.reading.found }
-        ensures steps { Steps self.old.engine self.new.engine self.old.reading self.new.reading lines.old lines.new
-            (record { left = S.left input.old; reads = S.faults input.old; holds = append_known (K.holds out.old.inner.now) out.old.room.now; writes = K.counts out.old.inner.now })
-            (record { left = S.left input.new; reads = S.faults input.new; holds = append_known (K.holds out.new.inner.now) out.new.room.now; writes = K.counts out.new.inner.now }) result }
-        ensures goes { Goes self.old.engine self.new.engine self.old.reading self.new.reading lines.old lines.new result }
-        ensures same { out.new.inner.ghost_name ≡ out.old.inner.ghost_name }
+    /// Does one thing: a key fires, a mail is run, a marker is sent (with its block at a barrier), a batch is sent to a shard that is
+    /// home, the next event is read and taken, or a batch that is out is served and its replies are delivered. Where there is
+    /// nothing of that, the run has ended.
+    ///
+    /// Condition: the run has not ended, and `input` and `out` are where the last step left them; `new` makes a task for any.
+    ///
+    /// Lines are gathered, and written when 65,536 bytes are there, after each marker, and at an end by `Ok`, `Input` or `Read`.
+    /// Looking at the input is no step of its own: what it finds, `found` tells from then on, and nothing more is read.
+    ///
+    /// - `Went`: one thing was done, and the run is nearer to its end: fewer events may come, or as many and there is less to do.
+    /// - `Wait` never comes, since the task serves batches itself.
+    /// - `End` with `Ok`, `Input` or `Read`: it is what `found` tells, nothing is in flight, and no marker is to be sent. All lines
+    ///   of the events that were read are written.
+    /// - `End` with `Write`: the count of `out` rose in this step. With `NoMemory`: at any time. `out` has a part of what may be written.
+    /// - `End` with `Program` never comes.
+    pub fn step<S: Source, K: Sink>(&mut self, input: &mut S, out: &mut K) -> Step
+        requires going { has_ended self.old ≡ false }
+        requires running { IsOnItsWay (state_of self.old) (record { left = S.left input.old; reads = S.faults input.old; holds = K.holds out.old; writes = K.counts out.old }) }
+        ensures goes { GoesOn (state_of self.old) (state_of self.new) (record { left = S.left input.old; reads = S.faults input.old; holds = K.holds out.old; writes = K.counts out.old }) (record { left = S.left input.new; reads = S.faults input.new; holds = K.holds out.new; writes = K.counts out.new }) result }
+        ensures nearer { ComesNearer (took_event self.new) (state_of self.old) (state_of self.new) result }
+        ensures never { result ≢ Step.Wait }
+        ensures finds { Finds (found_of self.old) (found_of self.new) (S.left input.old) (S.left input.new) (S.faults input.old) (S.faults input.new) }
+        ensures cause { EndIsCaused (controller_of self.new) (found_of self.new) (K.counts out.old) (K.counts out.new) result }
+        ensures ended { has_ended self.new ≡ is_end result }
     {
-        match self.engine.work(out) {
-            Ok(true) => Step::Went,
-            Ok(false) => self.read_on(lines, input),
-            Err(fault) => Step::End { end: end_of(fault) },
-        }
-    }
-
-    // Looks for the next event and takes it where it can be taken; else requests are sent and served, and where none are, the run
-    // has ended. Condition: nothing is left to do for the events that were taken but to send and serve requests.
-    fn read_on<S: Source>(&mut self, lines: &mut Lines, input: &mut S) -> Step
-        requires ready { IsReady self.old.engine }
-        requires may { MayRead lines.old self.old.reading.found }
-        requires quiet { IsQuiet self.old.engine.core }
-        requires mails { has_mail self.old.engine.core ≡ false }
-        ensures steps { (holds : Option (List ℕ)) (writes : Counts) → Steps self.old.engine self.new.engine self.old.reading self.new.reading lines.old lines.new
-            (record { left = S.left input.old; reads = S.faults input.old; holds = holds; writes = writes })
-            (record { left = S.left input.new; reads = S.faults input.new; holds = holds; writes = writes }) result }
-        ensures goes { Goes self.old.engine self.new.engine self.old.reading self.new.reading lines.old lines.new result }
-    {
-        match self.reading.look(self.alloc, lines, input) {
-            Ok(()) => self.take_or_exchange(lines),
-            Err(NoMemory) => Step::End { end: End::NoMemory },
-        }
-    }
-
-    // The same, where the next event was looked for.
-    fn take_or_exchange(&mut self, lines: &Lines) -> Step
-        requires ready { IsReady self.old.engine }
-        requires quiet { IsQuiet self.old.engine.core }
-        requires mails { has_mail self.old.engine.core ≡ false }
-        requires looked { IsLooked self.old.reading }
-        ensures steps { (now : Outer) → Steps self.old.engine self.new.engine self.old.reading self.new.reading lines.now lines.now now now result }
-        ensures goes { Goes self.old.engine self.new.engine self.old.reading self.new.reading lines.now lines.now result }
-    {
-        match self.take_held() {
-            Ok(true) => Step::Took,
-            Ok(false) => self.exchange(lines),
-            Err(NoMemory) => Step::End { end: End::NoMemory },
-        }
-    }
-
-    // The same, where the next event can't be taken or there is none.
-    fn exchange(&mut self, lines: &Lines) -> Step
-        requires ready { IsReady self.old.engine }
-        requires quiet { IsQuiet self.old.engine.core }
-        requires mails { has_mail self.old.engine.core ≡ false }
-        requires looked { IsLooked self.old.reading }
-        requires blocked { IfSome self.old.reading.next (λ _. IsFree self.old.engine.core → ⊥) }
-        ensures steps { (now : Outer) → Steps self.old.engine self.new.engine self.old.reading self.new.reading lines.now lines.now now now result }
-        ensures goes { Goes self.old.engine self.new.engine self.old.reading self.new.reading lines.now lines.now result }
-    {
-        match self.engine.exchange() {
-            Ok(true) => Step::Went,
-            Ok(false) => Step::End { end: self.ended() },
-            Err(NoMemory) => Step::End { end: End::NoMemory },
+        match advance::<S, K, Brand>(
+            &mut self.driver,
+            &mut self.lines,
+            &mut self.room,
+            &mut self.spare,
+            input,
+            out,
+        ) {
+            Did::Went => {
+                self.took = false;
+                Step::Went
+            }
+            Did::Took => {
+                self.took = true;
+                Step::Went
+            }
+            Did::End { end } => {
+                self.ended = true;
+                Step::End { end }
+            }
         }
     }
 
-    // What ended the events, where nothing is left to do: then no event is held, and an end was found.
-    fn ended(&self) -> End
-        requires ready { IsReady self.now.engine }
-        requires quiet { IsQuiet self.now.engine.core }
-        requires mails { has_mail self.now.engine.core ≡ false }
-        requires waits { NothingWaits self.now.engine }
-        requires looked { IsLooked self.now.reading }
-        requires blocked { IfSome self.now.reading.next (λ _. IsFree self.now.engine.core → ⊥) }
-        ensures { EndsWell self.now.engine self.now.reading result }
+    /// Whether a step ended the run.
+    pub fn has_ended(&self) -> bool
+        ensures { result ≡ has_ended self.now }
     {
-        match self.reading.found {
-            Some(end) => end,
-            None => End::NoMemory,
-        }
+        self.ended
     }
 
-    // Does what there is to do until an event is taken, or the run has ended so.
-    fn until_taken<S: Source, K: Sink, B: Begun>(
-        &mut self,
-        lines: &mut Lines,
-        input: &mut S,
-        out: &mut Gather<'_, K, B>,
-    ) -> Option<End>
-        requires { IsOnItsWay self.old.engine self.old.reading lines.old
-            (record { left = S.left input.old; reads = S.faults input.old; holds = append_known (K.holds out.old.inner.now) out.old.room.now; writes = K.counts out.old.inner.now }) }
-        ensures steps { Steps self.old.engine self.new.engine self.old.reading self.new.reading lines.old lines.new
-            (record { left = S.left input.old; reads = S.faults input.old; holds = append_known (K.holds out.old.inner.now) out.old.room.now; writes = K.counts out.old.inner.now })
-            (record { left = S.left input.new; reads = S.faults input.new; holds = append_known (K.holds out.new.inner.now) out.new.room.now; writes = K.counts out.new.inner.now }) (round_step result) }
-        ensures goes { Goes self.old.engine self.new.engine self.old.reading self.new.reading lines.old lines.new (round_step result) }
-        ensures same { out.new.inner.ghost_name ≡ out.old.inner.ghost_name }
+    /// What was found behind the last event: the end of the input (`Ok`), an input fault (`Input`) or a read fault (`Read`); `None`
+    /// as long as no step found one of these.
+    pub fn found(&self) -> Option<End>
+        ensures { result ≡ found_of self.now }
+    {
+        self.driver.reading.found
+    }
+
+    /// The controller, as the last step left it.
+    pub fn controller(&self) -> &Controller
+        ensures { result.now ≡ controller_of self.now }
+    {
+        &self.driver.engine.core
+    }
+
+    // Goes by steps until an event was taken, or the run has ended so.
+    fn until_taken<S: Source, K: Sink>(&mut self, input: &mut S, out: &mut K) -> Option<End>
+        requires going { has_ended self.old ≡ false }
+        requires running { IsOnItsWay (state_of self.old) (record { left = S.left input.old; reads = S.faults input.old; holds = K.holds out.old; writes = K.counts out.old }) }
+        ensures goes { GoesOn (state_of self.old) (state_of self.new) (record { left = S.left input.old; reads = S.faults input.old; holds = K.holds out.old; writes = K.counts out.old }) (record { left = S.left input.new; reads = S.faults input.new; holds = K.holds out.new; writes = K.counts out.new }) (step_of result) }
+        ensures nearer { IfNone result (due (state_of self.new).reading (state_of self.new).lines < due (state_of self.old).reading (state_of self.old).lines) }
+        ensures going { IfNone result (has_ended self.new ≡ false) }
     {
         'round: loop {
-            match self.work_on(lines, input, out) {
-                Step::Went => {}
-                Step::Took => return None,
+            match self.step(input, out) {
+                Step::Went => {
+                    if self.took {
+                        return None;
+                    }
+                }
+                Step::Wait => unreachable!(),
                 Step::End { end } => return Some(end),
             }
         }
     }
 }
 
-// Takes the events behind the section, one after another.
-fn take_events<S: Source, K: Sink, B: Begun>(
-    alloc: Global,
-    config: &Config,
-    order: Nums,
-    program: Program,
-    lines: &mut Lines,
-    input: &mut S,
-    out: &mut Gather<'_, K, B>,
-) -> End
-    requires sound { lines.old.failed ≡ false }
-    requires ranges { InRange config.now.settings }
-    requires contexts { 0 < config.now.settings.in_flight }
-    requires batch { 0 < config.now.batch }
-    ensures ended { HasEnded config.now.settings program
-        (record { means = events_at (shown_program program).fields first_last lines.old; held = lines.old.held; outer = record { left = S.left input.old; reads = S.faults input.old; holds = append_known (K.holds out.old.inner.now) out.old.room.now; writes = K.counts out.old.inner.now } })
-        (record { left = S.left input.new; reads = S.faults input.new; holds = append_known (K.holds out.new.inner.now) out.new.room.now; writes = K.counts out.new.inner.now }) result }
+// Writes what is gathered, at an end by Ok, Input or Read. How the run ends then.
+fn finish_end<K: Sink, B: Begun>(end: End, out: &mut Gather<'_, K, B>) -> End
+    ensures ended { (s : AnySettings) (p : CodeProgram) (from : From) (left : Option (List ℕ)) (reads : ℕ) → Begins from.outer.holds B.held
+        → HasEnded s p from (record { left = left; reads = reads; holds = append_known (K.holds out.old.inner.now) out.old.room.now; writes = K.counts out.old.inner.now }) end
+        → HasEnded s p from (record { left = left; reads = reads; holds = K.holds out.new.inner.now; writes = K.counts out.new.inner.now }) result }
+    ensures rest { (a : AnyController) (found : Option AnyEnd) → IsAtRest a found end → IsAtRest a found result }
     ensures same { out.new.inner.ghost_name ≡ out.old.inner.ghost_name }
 {
-    let reading = Reading::new(alloc, program.fields());
-    let Ok(engine) = Engine::new(alloc, config, program, order) else {
-        return End::NoMemory;
-    };
-    let mut task = Task {
-        alloc,
-        engine,
-        reading,
-    };
+    if is_stopped(&end) {
+        return end;
+    }
+    match out.flush() {
+        Ok(()) => end,
+        Err(fault) => end_of(fault),
+    }
+}
+
+// The same behind each thing that was done.
+fn finish<K: Sink, B: Begun>(did: Did, out: &mut Gather<'_, K, B>) -> Did
+    ensures leaves { (s : AnySettings) (p : CodeProgram) (from : From) (e : AnyEngine) (r : AnyReading) (lines : Reader) (left : Option (List ℕ)) (reads : ℕ) → Begins from.outer.holds B.held
+        → tasks.StepLeaves s p from e r lines (record { left = left; reads = reads; holds = append_known (K.holds out.old.inner.now) out.old.room.now; writes = K.counts out.old.inner.now }) did
+        → DidLeaves s p from (record { engine = e; reading = r; lines = lines; gathered = out.new.room.now }) (record { left = left; reads = reads; holds = K.holds out.new.inner.now; writes = K.counts out.new.inner.now }) result }
+    ensures goes { (e e2 : AnyEngine) (r r2 : AnyReading) (lines lines2 : Reader) → Goes e e2 r r2 lines lines2 did → Goes e e2 r r2 lines lines2 result }
+    ensures rest { (a : AnyController) (found : Option AnyEnd) → EndsAtRest a found did → EndsAtRest a found result }
+    ensures same { out.new.inner.ghost_name ≡ out.old.inner.ghost_name }
+{
+    match did {
+        Did::Went => Did::Went,
+        Did::Took => Did::Took,
+        Did::End { end } => Did::End {
+            end: finish_end(end, out),
+        },
+    }
+}
+
+// One step. What it writes is gathered behind what `room` holds. What `spare` holds is forgotten.
+fn advance<S: Source, K: Sink, B: Begun>(
+    driver: &mut Driver,
+    lines: &mut Lines,
+    room: &mut Room,
+    spare: &mut Room,
+    input: &mut S,
+    out: &mut K,
+) -> Did
+    requires held { K.holds out.now ≡ B.held }
+    requires base { K.base out.now ≡ B.base }
+    requires ready { IsReady driver.old.engine }
+    requires may { MayRead lines.old driver.old.reading.found }
+    ensures leaves { (s : AnySettings) (p : CodeProgram) (from : From)
+        → IsRunning s p from (record { engine = driver.old.engine; reading = driver.old.reading; lines = lines.old; gathered = room.old }) (record { left = S.left input.old; reads = S.faults input.old; holds = K.holds out.old; writes = K.counts out.old })
+        → DidLeaves s p from (record { engine = driver.new.engine; reading = driver.new.reading; lines = lines.new; gathered = room.new }) (record { left = S.left input.new; reads = S.faults input.new; holds = K.holds out.new; writes = K.counts out.new }) result }
+    ensures goes { Goes driver.old.engine driver.new.engine driver.old.reading driver.new.reading lines.old lines.new result }
+    ensures finds { Finds driver.old.reading.found driver.new.reading.found (S.left input.old) (S.left input.new) (S.faults input.old) (S.faults input.new) }
+    ensures rest { EndsAtRest driver.new.engine.core driver.new.reading.found result }
+{
+    let mut sink = Gather::<K, B>::new(spare, out);
+    mem::swap(sink.room, room);
+    let worked = driver.work_on(lines, input, &mut sink);
+    let did = finish(worked, &mut sink);
+    mem::swap(sink.room, room);
+    did
+}
+
+// Goes by steps until the run has ended.
+fn run_steps<S: Source, K: Sink>(task: &mut Task, input: &mut S, out: &mut K) -> End
+    requires going { has_ended task.old ≡ false }
+    requires running { IsOnItsWay (state_of task.old) (record { left = S.left input.old; reads = S.faults input.old; holds = K.holds out.old; writes = K.counts out.old }) }
+    ensures ended { RunEndsAs (state_of task.old) (record { left = S.left input.old; reads = S.faults input.old; holds = K.holds out.old; writes = K.counts out.old }) (record { left = S.left input.new; reads = S.faults input.new; holds = K.holds out.new; writes = K.counts out.new }) result }
+{
     'step: loop {
-        match task.until_taken(lines, input, out) {
+        match task.until_taken(input, out) {
             None => {}
             Some(end) => return end,
         }
     }
 }
 
-// Runs the events behind the section. What they write is gathered, and written in large pieces.
-fn run_gathered<S: Source, K: Sink, B: Begun>(
-    alloc: Global,
-    config: &Config,
-    order: Nums,
-    program: Program,
-    lines: &mut Lines,
-    input: &mut S,
-    room: &mut Room,
-    out: &mut K,
-) -> End
-    requires held { K.holds out.now ≡ B.held }
-    requires base { K.base out.now ≡ B.base }
-    requires sound { lines.old.failed ≡ false }
-    requires ranges { InRange config.now.settings }
-    requires contexts { 0 < config.now.settings.in_flight }
-    requires batch { 0 < config.now.batch }
-    ensures told { Told (S.left input.old) (S.left input.new)
-        (λ a b. StreamEnds (λ events. WritesLawful config.now.settings.groups config.now.settings.serial (shown_program program) events (record { old = K.holds out.old; new = K.holds out.new }))
-        (stream_of (shown_program program).fields first_last (lines.old.number + 1) (ahead lines.old a)) b result) }
-    ensures stopped { (done : List shown.Event) × Told (S.left input.old) (S.left input.new)
-        (λ a b. Took done (events_at (shown_program program).fields first_last lines.old) (feed_of lines.old a) b result)
-        × Wrote config.now.settings.groups config.now.settings.serial (shown_program program) done (record { old = K.holds out.old; new = K.holds out.new }) result }
-    ensures counts { EndCounts (record { reads = S.faults input.old; writes = K.counts out.old }) (record { reads = S.faults input.new; writes = K.counts out.new }) result }
-{
-    let mut sink = Gather::<K, B>::new(room, out);
-    let end = take_events(alloc, config, order, program, lines, input, &mut sink);
-    if is_stopped(&end) {
-        return end;
-    }
-    match sink.flush() {
-        Ok(()) => end,
-        Err(fault) => end_of(fault),
-    }
-}
-
-// The same, with a room for what is gathered.
+// Runs the events behind the section.
 fn run_events<S: Source, K: Sink>(
     alloc: Global,
     config: &Config,
     order: Nums,
     program: Program,
-    lines: &mut Lines,
+    lines: Lines,
     input: &mut S,
     out: &mut K,
 ) -> End
-    requires sound { lines.old.failed ≡ false }
+    requires sound { lines.failed ≡ false }
     requires ranges { InRange config.now.settings }
     requires contexts { 0 < config.now.settings.in_flight }
     requires batch { 0 < config.now.batch }
     ensures told { Told (S.left input.old) (S.left input.new)
         (λ a b. StreamEnds (λ events. WritesLawful config.now.settings.groups config.now.settings.serial (shown_program program) events (record { old = K.holds out.old; new = K.holds out.new }))
-        (stream_of (shown_program program).fields first_last (lines.old.number + 1) (ahead lines.old a)) b result) }
+        (stream_of (shown_program program).fields first_last (lines.number + 1) (ahead lines a)) b result) }
     ensures stopped { (done : List shown.Event) × Told (S.left input.old) (S.left input.new)
-        (λ a b. Took done (events_at (shown_program program).fields first_last lines.old) (feed_of lines.old a) b result)
+        (λ a b. Took done (events_at (shown_program program).fields first_last lines) (feed_of lines a) b result)
         × Wrote config.now.settings.groups config.now.settings.serial (shown_program program) done (record { old = K.holds out.old; new = K.holds out.new }) result }
     ensures counts { EndCounts (record { reads = S.faults input.old; writes = K.counts out.old }) (record { reads = S.faults input.new; writes = K.counts out.new }) result }
 {
-    let Ok(mut room) = Room::new(alloc) else {
+    let Ok(core) = Controller::new(alloc, program, config.settings) else {
         return End::NoMemory;
     };
-    run_gathered::<S, K, Brand>(alloc, config, order, program, lines, input, &mut room, out)
+    let Ok(mut task) = Task::new(alloc, config, core, lines, 0, order) else {
+        return End::NoMemory;
+    };
+    run_steps(&mut task, input, out)
 }
 
 /// Runs an input: reads the program section, then the events, which run asynchronously in one thread. `order` says which of the
@@ -321,7 +323,8 @@ fn run_events<S: Source, K: Sink>(
 /// section's end, and is then the only end but want of memory.
 /// `End::Input` names the first line of the events with a fault and its first kind; the lines of all events before it were written.
 /// `End::Read` and `End::Write` come only where the fault count of `input` or `out` rose in this call. At Read the lines of all events
-/// were written that the whole lines taken have, and none of these has a fault; at Write and NoMemory some first bytes of them. Nothing is written behind a write fault.
+/// were written that the whole lines taken have, and none of these has a fault; at Write and NoMemory some first bytes of them.
+/// Nothing is written behind a write fault.
 pub fn run_task_alone<S: Source, K: Sink>(
     alloc: Global,
     config: &Config,
@@ -346,7 +349,7 @@ pub fn run_task_alone<S: Source, K: Sink>(
         Err(fault) => return end_in_section(fault),
     };
     match read_program(alloc, section.lines.as_slice(), section.end) {
-        Ok(program) => run_events(alloc, config, order, program, &mut lines, input, out),
+        Ok(program) => run_events(alloc, config, order, program, lines, input, out),
         Err(ProgFault::At { line, kind }) => End::Program { line, kind },
         Err(ProgFault::NoMemory) => End::NoMemory,
     }

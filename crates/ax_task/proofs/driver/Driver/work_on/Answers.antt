@@ -4,8 +4,9 @@ use Rattle.ax_task.specs.Tasks.{Outer, HasEnded}
 use Rattle.ax_task.specs.declared.end.End.{End}
 use Rattle.ax_task.proofs.EngineLemmas.{ready_behind}
 use Rattle.ax_task.proofs.TaskLemmas.{went_on, broke_off}
-use Rattle.ax_task.proofs.Going.{goes_as}
-use Rattle.ax_task.proofs.task.Task.work_on.Goals as goal
+use Rattle.ax_task.proofs.Going.{goes_as, sink_rest}
+use Rattle.ax_task.proofs.ReadingLemmas.{finds_same}
+use Rattle.ax_task.proofs.driver.Driver.work_on.Goals as goal
 
 pub read_on-requires-clause-ready : goal.read_on-requires-clause-ready
 read_on-requires-clause-ready g c =
@@ -50,3 +51,12 @@ returns-in-Ok-false-clause-goes g c =
     let done : c.in-Ok-false.field-0 ≡ false = search rules in
     goes_as c.args.self.now.engine c.work.new.self c.read_on.new.self.engine c.args.self.now.reading c.args.self.now.reading c.read_on.new.self.reading c.args.lines.now c.read_on.new.lines c.read_on.result
     (c.in-Ok-false.ensures.still done) refl c.read_on.ensures.goes
+
+pub returns-in-Ok-true-clause-finds : goal.returns-in-Ok-true-clause-finds
+returns-in-Ok-true-clause-finds g c = finds_same c.args.self.now.reading.found (g.S.Source.left c.args.input.now) (g.S.Source.faults c.args.input.now)
+
+pub returns-in-Err-clause-finds : goal.returns-in-Err-clause-finds
+returns-in-Err-clause-finds g c = finds_same c.args.self.now.reading.found (g.S.Source.left c.args.input.now) (g.S.Source.faults c.args.input.now)
+
+pub returns-in-Err-clause-rest : goal.returns-in-Err-clause-rest
+returns-in-Err-clause-rest g c = sink_rest c.work.new.self.core c.args.self.now.reading.found c.in-Err.fault c.end_of.result c.end_of.ensures

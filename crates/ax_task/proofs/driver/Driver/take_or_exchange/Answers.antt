@@ -1,7 +1,7 @@
 use Rattle.std.proofs.Common.{◌≡◌, true, false, rules}
 use Rattle.ax_task.proofs.TaskLemmas.{took_on, same_underway, short_here}
 use Rattle.ax_task.proofs.Going.{took_due, goes_as}
-use Rattle.ax_task.proofs.task.Task.take_or_exchange.Goals as goal
+use Rattle.ax_task.proofs.driver.Driver.take_or_exchange.Goals as goal
 
 pub returns-in-Ok-true-clause-steps : goal.returns-in-Ok-true-clause-steps
 returns-in-Ok-true-clause-steps c = λ now s p from x.

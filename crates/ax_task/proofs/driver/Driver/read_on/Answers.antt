@@ -1,9 +1,10 @@
-use Rattle.std.proofs.Common.{sym, subst, ℕ}
-use Rattle.ax_task.specs.Tasks.{HasEnded}
+use Rattle.std.proofs.Common.{sym, subst, ℕ, Option}
+use Rattle.ax_task.specs.Tasks.{Finds, HasEnded}
+use Rattle.ax_task.specs.declared.end.End.{End}
 use Rattle.ax_task.specs.declared.end.End.TheVariants as end
 use Rattle.ax_task.proofs.TaskLemmas.{looked_on, short_read}
 use Rattle.ax_task.proofs.Going.{goes_behind}
-use Rattle.ax_task.proofs.task.Task.read_on.Goals as goal
+use Rattle.ax_task.proofs.driver.Driver.read_on.Goals as goal
 
 pub returns-in-Ok-clause-steps : goal.returns-in-Ok-clause-steps
 returns-in-Ok-clause-steps g c = λ holds writes s p from x.
@@ -25,3 +26,9 @@ pub returns-in-Ok-clause-goes : goal.returns-in-Ok-clause-goes
 returns-in-Ok-clause-goes g c =
     goes_behind c.args.self.now.engine c.take_or_exchange.new.self.engine c.args.self.now.reading c.look.new.self c.take_or_exchange.new.self.reading c.args.lines.now c.look.new.lines c.take_or_exchange.result
     c.in-Ok.ensures.due c.take_or_exchange.ensures.goes
+
+pub returns-in-Ok-clause-finds : goal.returns-in-Ok-clause-finds
+returns-in-Ok-clause-finds g c =
+    let left = g.S.Source.left in
+    let faults = g.S.Source.faults in
+    subst (λ (o : Option End). Finds c.args.self.now.reading.found o (left c.args.input.now) (left c.look.new.input) (faults c.args.input.now) (faults c.look.new.input)) (sym c.take_or_exchange.ensures.found) c.look.ensures.finds

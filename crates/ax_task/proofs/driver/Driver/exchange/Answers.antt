@@ -1,14 +1,14 @@
 use Rattle.std.proofs.Common.{◌≡◌, true, false, rules, arith}
 use Rattle.ax_task.proofs.TaskLemmas.{moved_on, short_here}
 use Rattle.ax_task.proofs.Going.{moved_ready, blocked_as}
-use Rattle.ax_task.proofs.task.Task.exchange.Goals as goal
+use Rattle.ax_task.proofs.driver.Driver.exchange.Goals as goal
 
 pub returns-in-Ok-true-clause-steps : goal.returns-in-Ok-true-clause-steps
 returns-in-Ok-true-clause-steps c = λ now s p from x. moved_on s p from c.args.self.now.engine c.args.self.now.reading c.args.lines.now now x c.exchange.new.self c.in-Ok-true.ensures.moves
 
 pub returns-in-Ok-false-clause-steps : goal.returns-in-Ok-false-clause-steps
 returns-in-Ok-false-clause-steps c = λ now s p from x.
-    c.ended.ensures s p from c.args.lines.now now (moved_on s p from c.args.self.now.engine c.args.self.now.reading c.args.lines.now now x c.exchange.new.self c.in-Ok-false.ensures.moves)
+    c.ended.ensures.well s p from c.args.lines.now now (moved_on s p from c.args.self.now.engine c.args.self.now.reading c.args.lines.now now x c.exchange.new.self c.in-Ok-false.ensures.moves)
 
 pub returns-in-Err-clause-steps : goal.returns-in-Err-clause-steps
 returns-in-Err-clause-steps c = λ now s p from x. short_here s p from c.args.self.now.engine c.args.self.now.reading c.args.lines.now now x

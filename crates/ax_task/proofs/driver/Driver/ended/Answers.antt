@@ -1,0 +1,11 @@
+use Rattle.ax_task.proofs.Going.{ends_well, at_rest, cant_be}
+use Rattle.ax_task.proofs.driver.Driver.ended.Goals as goal
+
+pub returns-clause-well : goal.returns-clause-well
+returns-clause-well c = ends_well c.args.self.now.engine c.args.self.now.reading c.requires.ready c.requires.quiet c.requires.mails c.requires.waits c.requires.blocked c.in-Some.end c.in-Some.is
+
+pub returns-clause-rest : goal.returns-clause-rest
+returns-clause-rest c = at_rest c.args.self.now.engine c.args.self.now.reading c.requires.ready c.requires.quiet c.requires.mails c.requires.waits c.requires.blocked c.in-Some.end c.in-Some.is
+
+pub unreachable-requires : goal.unreachable-requires
+unreachable-requires c = cant_be c.args.self.now.engine c.args.self.now.reading c.requires.ready c.requires.quiet c.requires.mails c.requires.waits c.requires.blocked c.requires.looked c.in-None.is

@@ -1,0 +1,20 @@
+use Rattle.ax_task.proofs.Running.{begins_trans}
+use Rattle.ax_task.proofs.task.finish.Goals as goal
+
+pub returns-in-Went-clause-leaves : goal.returns-in-Went-clause-leaves
+returns-in-Went-clause-leaves g c = λ s p from e r lines left reads b x. record {
+  underway = rw c.in-Went.is at x;
+  begun = begins_trans from.outer.holds g.B.Begun.held (g.K.Sink.holds c.args.out.now.inner.now) b c.args.out.now.begun;
+}
+
+pub returns-in-Took-clause-leaves : goal.returns-in-Took-clause-leaves
+returns-in-Took-clause-leaves g c = λ s p from e r lines left reads b x. record {
+  underway = rw c.in-Took.is at x;
+  begun = begins_trans from.outer.holds g.B.Begun.held (g.K.Sink.holds c.args.out.now.inner.now) b c.args.out.now.begun;
+}
+
+pub returns-in-End-clause-leaves : goal.returns-in-End-clause-leaves
+returns-in-End-clause-leaves g c = λ s p from e r lines left reads b x. c.finish_end.ensures.ended s p from left reads b (rw c.in-End.is at x)
+
+pub returns-in-End-clause-rest : goal.returns-in-End-clause-rest
+returns-in-End-clause-rest g c = λ a found h. c.finish_end.ensures.rest a found (rw c.in-End.is at h)
