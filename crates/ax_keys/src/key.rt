@@ -6,8 +6,8 @@ ghost use Rattle.std.specs.Cmp.{partial_equiv_from_equiv};
 ghost use Rattle.std.specs.Cmp.Lexicographic.{pointwise, slice_cmp, nat_list_eq_equiv, nat_list_cmp_total, texts_ties, texts_po};
 ghost use Rattle.ax_keys.specs.Keys.{is_key, is_key_byte};
 
+use crate::key_bytes::KeyBytes;
 use ax_base::{Duplicate, ListOf, NoMemory, cmp_by_heads, head_of};
-use smallvec::SmallVec;
 use std::alloc::Global;
 use std::cmp::Ordering;
 use std::marker::Model;
@@ -18,8 +18,7 @@ use std::marker::Model;
 pub struct Key {
     // The first eight bytes as one number, by which most keys are told apart with no look at the bytes.
     head: u64,
-    // A key of up to 16 bytes lies in the value itself.
-    bytes: SmallVec<u8, 16>,
+    bytes: KeyBytes,
 }
 
 /// A list of keys.
@@ -32,9 +31,9 @@ impl Model for Key {
 
     ghost Value = { List ℕ };
 
-    ghost view = { λ k. k.bytes.items };
+    ghost view = { λ k. k.bytes };
 
-    ghost invariant = { λ k. (is_key k.bytes.items ≡ true) × (k.head ≡ head_of k.bytes.items) };
+    ghost invariant = { λ k. (is_key k.bytes ≡ true) × (k.head ≡ head_of k.bytes) };
 }
 
 // Whether a byte prints and is no space.
@@ -73,13 +72,11 @@ impl Key {
         if !is_key(word) {
             return Ok(None);
         }
-        match SmallVec::from_slice(alloc, word) {
-            Ok(bytes) => Ok(Some(Key {
-                head: head_of(word),
-                bytes,
-            })),
-            Err(_) => Err(NoMemory),
-        }
+        let bytes = KeyBytes::of(alloc, word)?;
+        Ok(Some(Key {
+            head: head_of(word),
+            bytes,
+        }))
     }
 
     /// The bytes of the key.
@@ -93,13 +90,11 @@ impl Key {
 
 impl Duplicate for Key {
     fn copy(&self, alloc: Global) -> Result<Key, NoMemory> {
-        match SmallVec::from_slice(alloc, self.as_bytes()) {
-            Ok(bytes) => Ok(Key {
-                head: self.head,
-                bytes,
-            }),
-            Err(_) => Err(NoMemory),
-        }
+        let bytes = self.bytes.copy(alloc)?;
+        Ok(Key {
+            head: self.head,
+            bytes,
+        })
     }
 }
 
@@ -109,7 +104,7 @@ impl PartialEq for Key {
     ghost laws = { partial_equiv_from_equiv nat_list_eq_equiv };
 
     fn eq(&self, other: &Key) -> bool {
-        self.head == other.head && self.bytes == other.bytes
+        self.head == other.head && self.bytes.as_slice() == other.bytes.as_slice()
     }
 }
 

@@ -4,10 +4,13 @@
 //! - `groups`: the group of a key, the part of a group, and the range of groups of a part. The
 //!   formulas stand in `specs/Groups.antt`.
 //! - `laws`: each group lies in the range of its own part alone, and the ranges have no gap.
+//!
+//! The private module `key_bytes` holds the bytes of a key.
 #![tactic(auto)]
 
 pub mod groups;
 pub mod key;
+mod key_bytes;
 pub mod laws;
 
 pub use groups::{group, index_of_group, range_of_index, spread};

@@ -9,8 +9,8 @@ use Rattle.ax_keys.proofs.key.KeyOrd.cmp.Goals as goal
 
 pub returns-then-self-other : goal.returns-then-self-other
 returns-then-self-other c =
-    let a : List ℕ = c.self.inside.bytes.items in
-    let b : List ℕ = c.other.inside.bytes.items in
+    let a : List ℕ = c.self.inside.bytes in
+    let b : List ℕ = c.other.inside.bytes in
     let of_a : c.self.inside.head ≡ head_of a = c.self.invariant.1 in
     let of_b : c.other.inside.head ≡ head_of b = c.other.invariant.1 in
     let small : AreBytes a = key_bytes a c.self.invariant.0 in
@@ -21,8 +21,8 @@ returns-then-self-other c =
 
 pub returns-then-other-self : goal.returns-then-other-self
 returns-then-other-self c =
-    let a : List ℕ = c.self.inside.bytes.items in
-    let b : List ℕ = c.other.inside.bytes.items in
+    let a : List ℕ = c.self.inside.bytes in
+    let b : List ℕ = c.other.inside.bytes in
     let of_a : c.self.inside.head ≡ head_of a = c.self.invariant.1 in
     let of_b : c.other.inside.head ≡ head_of b = c.other.invariant.1 in
     let small : AreBytes a = key_bytes a c.self.invariant.0 in
