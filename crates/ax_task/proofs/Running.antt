@@ -1,5 +1,5 @@
 -- A task's steps: what they leave of a run, and how it ends.
-use Rattle.std.proofs.Common.{◌≡◌, ◌<◌, ◌≤◌, ℕ, ℤ, List, [], ◌++◌, length, take, Bool, true, false, Option, Some, None, unwrap_or, Err, refl, sym, ap, ◌∙◌, subst, arith}
+use Rattle.std.proofs.Common.{◌≡◌, ◌≤◌, ℕ, ℤ, List, [], ◌++◌, length, take, Bool, true, false, Option, Some, None, unwrap_or, Err, refl, sym, ap, ◌∙◌, subst, arith}
 use Rattle.std.proofs.lemmas.List.{take-take, take_all, length-take}
 use Rattle.std.proofs.lemmas.Option.{none-some}
 use Rattle.std.specs.Io.KnownBytes.{Keeps, append_known}
@@ -97,13 +97,7 @@ way_on t now t' now' w on = record { settings = w.settings; program = w.program;
 pub no_more : (a b c : ℕ) → a ≤ b → b ≤ c → a ≤ c
 no_more a b c h k = omega (arith, h, k)
 
-pub fewer : (a b c : ℕ) → a < b → b ≤ c → a < c
-fewer a b c h k = omega (arith, h, k)
-
--- what came nearer
-pub nearer_took : (took : Bool) (t t' : State) → took ≡ true → IsNearer took t t' → due t'.reading t'.lines < due t.reading t.lines
-nearer_took took t t' is h = subst (λ (b : Bool). IsNearer b t t') is h
-
+-- where no event was taken, there is less to do
 pub nearer_worked : (took : Bool) (t t' : State) → took ≡ false → IsNearer took t t' → LessIsLeft t.engine t'.engine × (due t'.reading t'.lines ≤ due t.reading t.lines)
 nearer_worked took t t' is h = subst (λ (b : Bool). IsNearer b t t') is h
 
