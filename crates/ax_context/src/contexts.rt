@@ -1,5 +1,5 @@
 //! Counted contexts.
-ghost use Rattle.std.specs.Prelude.{◌≡◌, ◌+◌, ◌<◌, ◌≤◌, ◌^◌, ℕ, Some, None, IfOk, is_some, []};
+ghost use Rattle.std.specs.Prelude.{◌≡◌, ◌+◌, ◌-◌, ◌<◌, ◌≤◌, ◌^◌, ℕ, Some, None, IfOk, is_some, []};
 ghost use Rattle.ax_context.specs.declared.id.Id.{Id as Name};
 ghost use Rattle.ax_context.specs.Slots.{Slots, ahead, at, IsLive, Has, live_count, OthersStay, IsTaken, IsFirstFree, with_payload, IsPaid};
 ghost use Rattle.ax_context.specs.Released.{Answers, left, gone_count};
@@ -127,6 +127,20 @@ impl<T: Drop> Contexts<T> {
     {
         let context = &mut self.table[id.slot];
         context.count += 1;
+    }
+
+    /// One reference less, where there are others. Conditions: `is_live(id)`, and `count(id)` is above 1.
+    pub fn release_one(&mut self, id: Id)
+        requires live { IsLive self.old id }
+        requires more { Has self.old id (λ c. 1 < c.count) }
+        ensures counted { Has self.old id (λ c. at self.new id ≡ Some (record c { count = c.count - 1 })) }
+        ensures others { OthersStay self.old self.new id }
+        ensures len { live_count self.new ≡ live_count self.old }
+        ensures limit { self.new.limit ≡ self.old.limit }
+        ensures next { self.new.next ≡ self.old.next }
+    {
+        let context = &mut self.table[id.slot];
+        context.count -= 1;
     }
 
     /// One reference less. `Gone` comes exactly where this was the last: the context is given up, and

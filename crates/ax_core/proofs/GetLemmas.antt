@@ -14,7 +14,7 @@ pub if_ok : {T E : Type 0} {P Q : T → Type 0} (r : Result T E) → ((x : T) �
 if_ok (Ok x) f p = f x p
 if_ok (Err e) f p = tt
 
-some_and : {T : Type 0} {P Q : T → Type 0} (o : Option T) → ((x : T) → P x → Q x) → IsSomeAnd o P → IsSomeAnd o Q
+pub some_and : {T : Type 0} {P Q : T → Type 0} (o : Option T) → ((x : T) → P x → Q x) → IsSomeAnd o P → IsSomeAnd o Q
 some_and None f h = absurd h
 some_and (Some x) f h = f x h
 

@@ -315,6 +315,10 @@ fn give_up(contexts: &mut Contexts<Record>, id: Id) -> Option<(Handler, u64)>
     requires { IsLive contexts.old id }
     ensures { LeftBy contexts.old contexts.new id result }
 {
+    if contexts.count(id) > 1 {
+        contexts.release_one(id);
+        return None;
+    }
     match contexts.release(id) {
         Released::Live => None,
         Released::Gone { payload, epoch, .. } => Some((payload.handler, epoch)),

@@ -1,5 +1,5 @@
 //! Lines that are written.
-ghost use Rattle.std.specs.Prelude.{◌≡◌, ◌++◌, ◌∷◌, OnOk, OnErr};
+ghost use Rattle.std.specs.Prelude.{◌≡◌, ◌++◌, ◌∷◌, [], OnOk, OnErr};
 ghost use Rattle.std.specs.Fmt.{signed_decimal};
 ghost use Rattle.std.specs.Io.KnownBytes.{Appends};
 ghost use Rattle.ax_base.specs.Outside.{AppendsSome, OwnCounts};
@@ -18,12 +18,21 @@ fn put_bytes(text: &mut Vec<u8>, bytes: &[u8]) -> Result<(), NoMemory>
     }
 }
 
+fn put_byte(text: &mut Vec<u8>, byte: u8) -> Result<(), NoMemory>
+    ensures { OnOk result (text.new.items ≡ text.old.items ++ byte ∷ []) }
+{
+    match text.push(byte) {
+        Ok(()) => Ok(()),
+        Err(_) => Err(NoMemory),
+    }
+}
+
 // Writes a space and a number.
 fn put_number(text: &mut Vec<u8>, number: &i64) -> Result<(), NoMemory>
     ensures { OnOk result (text.new.items ≡ text.old.items ++ 32 ∷ signed_decimal number.now) }
 {
     let mut digits = Buffer::new();
-    put_bytes(text, b" ")?;
+    put_byte(text, b' ')?;
     put_bytes(text, digits.format(*number).as_bytes())
 }
 
@@ -44,7 +53,7 @@ fn put_line(text: &mut Vec<u8>, key: &[u8], numbers: &[i64]) -> Result<(), NoMem
     put_bytes(text, b"o ")?;
     put_bytes(text, key)?;
     put_numbers(text, numbers)?;
-    put_bytes(text, b"\n")
+    put_byte(text, b'\n')
 }
 
 // The text becomes the line of a watermark.
