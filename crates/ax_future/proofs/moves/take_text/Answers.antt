@@ -2,7 +2,6 @@ use Rattle.std.proofs.Common.{◌≡◌, ◌≤◌, ◌<◌, ◌∙◌, ◌∷�
 use Rattle.ax_text.specs.Texts.{Text}
 use Rattle.ax_text.specs.Controls.{Rest, Cursor}
 use Rattle.ax_lang.specs.Forms.{top_of}
-use Rattle.ax_lang.specs.Shown.{text_from}
 use Rattle.ax_future.specs.Nodes.{cursor_in, behind, highest}
 use Rattle.ax_future.specs.Talks.{talk_of, known_in}
 use Rattle.ax_future.specs.Moves.{Goes, Moves}
