@@ -18,12 +18,13 @@ use Rattle.ax_core.specs.Flow.{out_of}
 use Rattle.ax_core.specs.Sound.{StandsFor, IsSound}
 use Rattle.ax_core.specs.Events.{SameRules, KeysStay, OfKeys, AsksAll, IsBatchOut, ServesAll, names_in}
 use Rattle.ax_core.specs.Batches.{OthersOut}
-use Rattle.ax_task.specs.Serving.{Content, AllFit}
-use Rattle.ax_task.specs.Shards.{Serving, shard_count, held, out, Stays, Came}
+use Rattle.ax_core.specs.Order.{SendsFirst, Posts, replies_in}
+use Rattle.ax_task.specs.Serving.{Content, AllFit, replies_to}
+use Rattle.ax_task.specs.Shards.{Serving, shard_count, held, out, next_out, IsNext, Stays, Came}
 use Rattle.ax_task.specs.Refined.{content_over, Refines}
 use Rattle.ax_task.specs.Work.{left_to_do}
-use Rattle.ax_task.specs.Engines.{Stands, IsReady, MovesOn}
-use Rattle.ax_task.specs.Exchanged.{IsHomeWith, LessIsLeft, NothingWaits}
+use Rattle.ax_task.specs.Engines.{Stands, IsReady, MovesOn, batch_of, order_of}
+use Rattle.ax_task.specs.Exchanged.{IsHomeWith, LessIsLeft, NothingWaits, NoneHomeWith, IsSent, IsBack, Exchanges, SendsFull, SendsShort, Serves, Nothing}
 use Rattle.ax_task.specs.declared.engine.Engine.{Engine}
 use Rattle.ax_task.proofs.Exchanges.{sent_on, sent_falls, is_batch_out, came_on, came_falls}
 
@@ -138,3 +139,39 @@ nothing old new (Ok done) none settings core stays home = λ h. record {
     empty : (is : List Item) → (1 ≤ length is → ⊥) → is ≡ []
     empty [] w = refl
     empty (i ∷ is) w = absurd (w (omega arith))
+
+-- what was sent are the first requests that waited
+pub sent_first : (e e' : Engine) (shard : ℕ) (batch : List Item) → batch ≡ take (batch_of e) (queue_of e.core.buffer shard)
+    → SendsFirst e.core e'.core shard (batch_of e) batch → ((t : ℕ) → out e'.shards t ≡ upd (out e.shards) shard batch t) → ((t : ℕ) → held e'.shards t ≡ held e.shards t)
+    → e'.shards.sent ≡ e.shards.sent ++ shard ∷ [] → e'.shards.order ≡ e.shards.order → IsSent e e' shard
+sent_first e e' shard batch is queue now kept sent order = record {
+  queue = subst (λ (b : List Item). SendsFirst e.core e'.core shard (batch_of e) b) is queue;
+  batches = subst (λ (b : List Item). (t : ℕ) → out e'.shards t ≡ upd (out e.shards) shard b t) is now;
+  kept = kept;
+  sent = sent;
+  order = order;
+}
+
+-- what came back is the batch that was next
+pub back_next : (e e' : Engine) (n shard : ℕ) (rs : List Reply) → Came n (out e.shards) (out e'.shards) (held e.shards) (held e'.shards) shard (Ok rs)
+    → IsNext e.shards e'.shards shard → Posts e.core e'.core (replies_in e.core rs) → IsBack e e' (next_out e.shards)
+back_next e e' n shard rs came next posts = subst (IsBack e e') next.shard (record {
+  next = next;
+  was_out = came.was_out;
+  home = came.home;
+  replies = subst (λ (ys : List Reply). Posts e.core e'.core (replies_in e.core ys)) came.served.replies posts;
+})
+
+-- nothing can be sent: the next batch is served, or there is nothing to do
+pub served_last : (old new : Engine) (r : Result Bool NoMemory) → NoneHomeWith old 1 → IfOk r (λ done. done ≡ true → IsBack old new (next_out old.shards)) → IfOk r (λ done. done ≡ false → new ≡ old)
+    → IfOk r (λ done. done ≡ false → NothingWaits new) → IfOk r (λ done. Exchanges old new done)
+served_last old new (Err e) none back still waits = tt
+served_last old new (Ok true) none back still waits = record { thing = Serves (next_out old.shards); comes = (none, refl); leads = back refl; told = refl }
+served_last old new (Ok false) none back still waits = record { thing = Nothing; comes = subst NothingWaits (still refl) (waits refl); leads = still refl; told = refl }
+
+-- a batch was sent
+pub sends_full : (old new : Engine) (shard : ℕ) → shard < old.settings.shards → IsHomeWith old (batch_of old) shard → ((t : ℕ) → t < shard → IsHomeWith old (batch_of old) t → ⊥) → IsSent old new shard → Exchanges old new true
+sends_full old new shard among is first sent = record { thing = SendsFull shard; comes = record { among = among; is = is; first = first }; leads = sent; told = refl }
+
+pub sends_short : (old new : Engine) (shard : ℕ) → NoneHomeWith old (batch_of old) → shard < old.settings.shards → IsHomeWith old 1 shard → ((t : ℕ) → t < shard → IsHomeWith old 1 t → ⊥) → IsSent old new shard → Exchanges old new true
+sends_short old new shard none among is first sent = record { thing = SendsShort shard; comes = (none, record { among = among; is = is; first = first }); leads = sent; told = refl }

@@ -1,9 +1,9 @@
 //! Requests go to shards, and replies come back.
 ghost use Rattle.std.specs.Prelude.{◌≡◌, ◌<◌, ◌↔◌, ℕ, [], length, true, false, IsTrue, IfOk, IfSome, IfNone, OnOk};
 ghost use Rattle.ax_buffer.specs.Buffer.{queue_of};
-ghost use Rattle.ax_task.specs.Shards.{held, out, Stays};
-ghost use Rattle.ax_task.specs.Engines.{IsReady, MovesOn};
-ghost use Rattle.ax_task.specs.Exchanged.{IsHomeWith, LessIsLeft, NothingWaits};
+ghost use Rattle.ax_task.specs.Shards.{held, out, next_out, Stays};
+ghost use Rattle.ax_task.specs.Engines.{IsReady, MovesOn, batch_of};
+ghost use Rattle.ax_task.specs.Exchanged.{IsHomeWith, LessIsLeft, NothingWaits, IsSent, IsBack, Exchanges};
 
 use crate::engine::Engine;
 use ax_base::NoMemory;
@@ -24,6 +24,7 @@ impl Engine {
         ensures some { IfSome result (λ s. IsHomeWith self.now least s) }
         ensures none { IfNone result ((s : ℕ) → s < self.now.settings.shards → IsHomeWith self.now least s → ⊥) }
         ensures below { IfSome result (λ s. s < self.now.settings.shards) }
+        ensures first { IfSome result (λ s. (t : ℕ) → t < s → IsHomeWith self.now least t → ⊥) }
     {
         for shard in 0..self.settings.shards {
             if self.is_home_with(shard, least) {
@@ -33,7 +34,7 @@ impl Engine {
         None
     }
 
-    // Sends a batch to a shard that is home. Condition: requests wait for it.
+    // Sends the first requests that wait for a shard that is home: as many as go at once, or all. Condition: there are some.
     fn send(&mut self, shard: u16) -> Result<(), NoMemory>
         requires ready { IsReady self.old }
         requires shard { shard < self.old.settings.shards }
@@ -41,13 +42,15 @@ impl Engine {
         requires waits { 0 < length (queue_of self.old.core.buffer shard) }
         ensures moves { OnOk result (MovesOn self.old self.new) }
         ensures falls { OnOk result (LessIsLeft self.old self.new) }
+        ensures sent { OnOk result (IsSent self.old self.new shard) }
+        ensures batch { batch_of self.new ≡ batch_of self.old }
     {
         let batch = self.core.batch_for(shard, self.batch)?;
         self.shards.send(shard, batch);
         Ok(())
     }
 
-    // Takes the replies to a batch. Whether one was out.
+    // Serves the batch that is next by the list of numbers, and takes its replies. Whether one was out.
     fn poll(&mut self) -> Result<bool, NoMemory>
         requires ready { IsReady self.old }
         ensures moves { OnOk result (MovesOn self.old self.new) }
@@ -56,6 +59,9 @@ impl Engine {
         ensures core { IfOk result (λ done. done ≡ false → self.new.core ≡ self.old.core) }
         ensures stays { IfOk result (λ done. done ≡ false → Stays (out self.old.shards) (out self.new.shards) (held self.old.shards) (held self.new.shards)) }
         ensures home { IfOk result (λ done. done ≡ false → (s : ℕ) → out self.new.shards s ≡ []) }
+        ensures still { IfOk result (λ done. done ≡ false → self.new ≡ self.old) }
+        ensures back { IfOk result (λ done. done ≡ true → IsBack self.old self.new (next_out self.old.shards)) }
+        ensures batch { batch_of self.new ≡ batch_of self.old }
     {
         let Some(back) = self.shards.poll() else {
             return Ok(false);
@@ -64,14 +70,17 @@ impl Engine {
         Ok(true)
     }
 
-    /// Sends a batch to a shard that is home, a full one where there is one; and where there is none, a batch that is out is
-    /// served. Whether there was something to do.
+    /// Sends a full batch to the first shard that is home and for which so many requests wait. Where there is none, sends all
+    /// that wait for the first shard that is home and for which some wait. Where there is none either, serves the batch that
+    /// the list of numbers tells, as `Shards::poll` says. Whether there was something to do; where not, nothing has changed.
     pub fn exchange(&mut self) -> Result<bool, NoMemory>
         requires ready { IsReady self.old }
         ensures moves { OnOk result (MovesOn self.old self.new) }
         ensures falls { IfOk result (λ done. done ≡ true → LessIsLeft self.old self.new) }
         ensures idle { IfOk result (λ done. done ≡ false → self.new.core ≡ self.old.core) }
         ensures nothing { IfOk result (λ done. done ≡ false → NothingWaits self.new) }
+        ensures exchanges { IfOk result (λ done. Exchanges self.old self.new done) }
+        ensures batch { batch_of self.new ≡ batch_of self.old }
     {
         if let Some(shard) = self.home_with(self.batch) {
             self.send(shard)?;
