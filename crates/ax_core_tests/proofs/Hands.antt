@@ -1,6 +1,6 @@
--- Of each shard at most one batch is out, and its replies name it.
+-- The replies of each shard name what is out of it.
 use Rattle.std.proofs.Common.{◌≡◌, ℕ, zero, suc, ◌<◌, List, [], ◌∷◌, ◌++◌, map, length, get_or, set, replicate, refl, sym, ap, ap₂, ◌∙◌, arith}
-use Rattle.std.proofs.lemmas.List.{append-nil, map-set, length-map}
+use Rattle.std.proofs.lemmas.List.{append-nil, map-append, map-set, length-map}
 use Rattle.ax_lang.specs.Shown.{shown_program}
 use Rattle.ax_buffer.specs.declared.items.Reply.{Reply}
 use Rattle.ax_buffer.specs.Buffer.{total}
@@ -23,20 +23,22 @@ same_at [] i d e lt = absurd (omega arith)
 same_at (x ∷ xs) zero d e lt = refl
 same_at (x ∷ xs) (suc i) d e lt = same_at xs i d e (omega arith)
 
-pub home_at : {X : Type 0} (xs : List (List X)) (i : ℕ) (x : List X) → x ≡ get_or xs i x → i < length xs → x ≡ [] → get_or xs i [] ≡ []
-home_at xs i x there lt e = same_at xs i [] x lt ∙ (sym there ∙ e)
-
 -- how many shards there are
 pub as_many : (a : Controller) (served : List (List Reply)) → IsSound a → a.outs.items ≡ map names_of served → a.settings.shards ≡ length served
 as_many a served sound out = sym sound.flow.shards.1 ∙ (ap (λ (os : List (List Name)). length os) out ∙ length-map served names_of)
 
--- a shard that is home has nothing out, so that its batch is all that is out
-pub only_batch : (a : Controller) (served : List (List Reply)) (s : ℕ) (names : List Name) → a.outs.items ≡ map names_of served → get_or served s [] ≡ [] → out_of a s ++ names ≡ names
-only_batch a served s names out home = ap (λ (ns : List Name). ns ++ names) (ap (λ (os : List (List Name)). get_or os s []) out ∙ (named_at served s ∙ ap names_of home))
+-- behind a further batch the replies name what was out and then the batch
+pub batch_behind : (a : Controller) (served : List (List Reply)) (s : ℕ) (names : List Name) (rs : List Reply) → a.outs.items ≡ map names_of served → names_of rs ≡ names_of (get_or served s []) ++ names → out_of a s ++ names ≡ names_of rs
+batch_behind a served s names rs out named = ap (λ (ns : List Name). ns ++ names) (ap (λ (os : List (List Name)). get_or os s []) out ∙ named_at served s) ∙ sym named
 
 -- what was served of a shard is the batch that is out of it
 pub is_out : (a : Controller) (served : List (List Reply)) (s : ℕ) (rs : List Reply) → a.outs.items ≡ map names_of served → rs ≡ get_or served s [] → out_of a s ≡ [] ++ (names_of rs ++ [])
 is_out a served s rs out same = ap (λ (os : List (List Name)). get_or os s []) out ∙ (named_at served s ∙ (ap names_of (sym same) ∙ sym (append-nil (names_of rs))))
+
+-- the last of them are out behind the others
+pub last_out : (a : Controller) (served : List (List Reply)) (s : ℕ) (first last : List Reply) → a.outs.items ≡ map names_of served → get_or served s [] ≡ first ++ last → out_of a s ≡ names_of first ++ (names_of last ++ [])
+last_out a served s first last out cut = ap (λ (os : List (List Name)). get_or os s []) out
+    ∙ (named_at served s ∙ (ap names_of cut ∙ (map-append (λ (r : Reply). record { id = r.id; slot = r.slot }) first last ∙ ap (λ (ns : List Name). names_of first ++ ns) (sym (append-nil (names_of last))))))
 
 pub batch_out : (a : Controller) (served : List (List Reply)) (s : ℕ) (rs : List Reply) → a.outs.items ≡ map names_of served → rs ≡ get_or served s [] → IsBatchOut a rs
 batch_out a served s rs out same = record { shard = s; before = []; behind = []; there = is_out a served s rs out same }

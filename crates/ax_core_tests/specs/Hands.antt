@@ -14,7 +14,7 @@ pub record AreFor (p : Program) (s : States) : Type 0 where
   pub b : cell_kinds s.b ≡ shown_kinds p
   pub others : cell_kinds s.others ≡ shown_kinds p
 
--- of each shard at most one batch is out, which was served
+-- what is out of each shard was served
 pub record IsReady (h : Hand) : Type 0 where
   pub sound : IsSound h.core
   pub states : AreFor h.core.program h.states

@@ -121,6 +121,15 @@ fn batch(rt: &impl Abort, hand: &mut Hand, shard: u16, max: u32, told: &mut Stri
     }
 }
 
+// The same of a shard of which other batches may be out.
+fn further(rt: &impl Abort, hand: &mut Hand, shard: u16, max: u32, told: &mut String)
+    requires { IsReady hand.old }
+    ensures { IsReady hand.new }
+{
+    let count = hand.further(shard, max).expect(rt, "memory");
+    write!(told, " T{shard}x{count}").expect(rt, "memory");
+}
+
 // A batch of each shard.
 fn batches(rt: &impl Abort, hand: &mut Hand, told: &mut String)
     requires { IsReady hand.old }
@@ -132,7 +141,7 @@ fn batches(rt: &impl Abort, hand: &mut Hand, told: &mut String)
 }
 
 // One call by its letter: `r` admits, `w` and `b` close, `m` runs a mail and `M` all, `s` takes a batch of a shard and `S` of
-// each, `d` delivers to a shard, `f` fires, `k` takes the next marker, `n` asks how many are in flight.
+// each, `t` a further batch of a shard, `d` delivers to a shard, `l` the last replies alone, `f` fires, `k` takes the next marker, `n` asks how many are in flight.
 fn call(rt: &impl Abort, hand: &mut Hand, line: &str, told: &mut String)
     requires { IsReady hand.old }
     ensures { IsReady hand.new }
@@ -158,6 +167,16 @@ fn call(rt: &impl Abort, hand: &mut Hand, line: &str, told: &mut String)
             batch(rt, hand, shard, max, told);
         }
         "S" => batches(rt, hand, told),
+        "t" => {
+            let shard = shard_in(words.next());
+            let max = small(words.next());
+            further(rt, hand, shard, max, told);
+        }
+        "l" => {
+            let shard = shard_in(words.next());
+            let last = small(words.next()) as usize;
+            let _count = hand.deliver_last(shard, last).expect(rt, "memory");
+        }
         "d" => {
             let shard = shard_in(words.next());
             let _count = hand.deliver(shard);
@@ -288,6 +307,16 @@ fn twenty_rows_of_a_key(rt: HostRuntime) {
     assert_eq!(rt; twenty_rows(&rt, alloc, 6000).as_str(), sums);
 }
 
+// Two batches of one shard are out at once, and come back in their order or in the other.
+
+const TWO_KEYS: &str = "\
+serial|10|r a 1 5;r j 2 7;M;t 5 1;t 5 1;d 5;M;t 5 1;t 5 1;d 5;M;n| A1 A2 S1 S2 T5x1 T5x1 R1.0 R2.0 T5x1 T5x1 R1.0[5]! R2.0[7]! =0
+serial|10|r a 1 5;r j 2 7;M;t 5 1;t 5 1;l 5 1;M;d 5;M;t 5 1;t 5 1;l 5 1;M;d 5;M;n| A1 A2 S1 S2 T5x1 T5x1 R2.0 R1.0 T5x1 T5x1 R1.0[5]! R2.0[7]! =0";
+
+const TWO_SLOTS: &str = "\
+serial|10|r a 1;M;t 5 1;t 5 1;d 5;M;S;d 5;M;S;d 5;M;n| A1 S1 T5x1 T5x1 R1.0 R1.1 B5x1 R1.0 B5x1 R1.0[3, 4]! =0
+serial|10|r a 1;M;t 5 1;t 5 1;l 5 1;M;d 5;M;S;d 5;M;S;d 5;M;n| A1 S1 T5x1 T5x1 R1.1 R1.0 B5x1 R1.0 B5x1 R1.0[3, 4]! =0";
+
 // The first line of a table whose calls tell something else.
 fn first_wrong(rt: &impl Abort, alloc: Global, text: &str, table: &str) -> String {
     for case in table.lines() {
@@ -309,4 +338,6 @@ fn calls_by_hand(rt: HostRuntime) {
     assert_eq!(rt; first_wrong(&rt, alloc, SUMS, SUMMED).as_str(), "");
     assert_eq!(rt; first_wrong(&rt, alloc, TIMERS, TIMED).as_str(), "");
     assert_eq!(rt; first_wrong(&rt, alloc, ARMS, BOTH).as_str(), "");
+    assert_eq!(rt; first_wrong(&rt, alloc, SUMS, TWO_KEYS).as_str(), "");
+    assert_eq!(rt; first_wrong(&rt, alloc, ARMS, TWO_SLOTS).as_str(), "");
 }

@@ -1,6 +1,5 @@
 //! A controller in the hand of a test.
-ghost use Rattle.std.specs.Prelude.{◌≡◌, ◌<◌, [], length, replicate, IfOk, OnOk};
-ghost use Rattle.std.specs.List.{slice_index_or};
+ghost use Rattle.std.specs.Prelude.{◌≡◌, ◌<◌, ◌++◌, [], length, replicate, IfOk, OnOk};
 ghost use Rattle.ax_buffer.specs.Buffer.{queue_of};
 ghost use Rattle.ax_core.specs.Sound.{InRange};
 ghost use Rattle.ax_core_tests.specs.Hands.{IsReady};
@@ -27,7 +26,7 @@ fn no_replies(alloc: Global, shards: u16) -> Result<Vec<Replies>, NoMemory>
     Ok(served)
 }
 
-/// A controller, the states of its keys, and for each shard the replies to the batch that is out.
+/// A controller, the states of its keys, and for each shard the replies to the batches that are out.
 #[derive(Drop)]
 pub struct Hand {
     pub alloc: Global,
@@ -118,8 +117,20 @@ impl Hand {
     }
 
     /// Takes a batch of a shard that is home, and serves it; how many requests it has.
-    #[tactic(auto, using(crate::proofs::Hands::home_at))]
     pub fn batch(&mut self, shard: u16, max: u32) -> Result<usize, NoMemory>
+        requires { IsReady self.old }
+        ensures { OnOk result (IsReady self.new) }
+    {
+        let at = shard as usize;
+        if at < self.served.len() && self.served[at].is_empty() {
+            self.further(shard, max)
+        } else {
+            Ok(0)
+        }
+    }
+
+    /// The same of a shard of which other batches may be out.
+    pub fn further(&mut self, shard: u16, max: u32) -> Result<usize, NoMemory>
         requires { IsReady self.old }
         ensures { OnOk result (IsReady self.new) }
     {
@@ -127,27 +138,29 @@ impl Hand {
         if at >= self.served.len() || max == 0 {
             return Ok(0);
         }
-        let home = self.served[at].is_empty();
-        if home && self.core.active_len(shard) > 0 {
+        if self.core.active_len(shard) > 0 {
             self.take(shard, max)
         } else {
             Ok(0)
         }
     }
 
-    // The same of a shard that is home and has requests.
+    // The same of a shard that has requests.
     fn take(&mut self, shard: u16, max: u32) -> Result<usize, NoMemory>
         requires ready { IsReady self.old }
         requires there { shard < length self.old.served.items }
-        requires home { slice_index_or self.old.served.items shard [] ≡ [] }
         requires some { 0 < length (queue_of self.old.core.buffer shard) }
         requires most { 0 < max }
         ensures { OnOk result (IsReady self.new) }
     {
         let batch = self.core.batch_for(shard, max)?;
-        let replies = serve(self.alloc, self.core.program(), &mut self.states, batch)?;
-        let count = replies.len();
-        self.served[shard as usize] = replies;
+        let count = batch.len();
+        serve(
+            self.core.program(),
+            &mut self.states,
+            batch,
+            &mut self.served[shard as usize],
+        )?;
         Ok(count)
     }
 
@@ -165,4 +178,32 @@ impl Hand {
         self.core.deliver(replies);
         count
     }
+
+    /// Delivers the last replies of a shard, at most so many; those before them stay out. How many they are.
+    pub fn deliver_last(&mut self, shard: u16, count: usize) -> Result<usize, NoMemory>
+        requires { IsReady self.old }
+        ensures { OnOk result (IsReady self.new) }
+    {
+        let at = shard as usize;
+        if at >= self.served.len() {
+            return Ok(0);
+        }
+        let last = split_last(self.alloc, &mut self.served[at], count)?;
+        let count = last.len();
+        self.core.deliver(last);
+        Ok(count)
+    }
+}
+
+// Takes off the last replies, so many.
+fn split_last(alloc: Global, replies: &mut Replies, count: usize) -> Result<Replies, NoMemory>
+    ensures { IfOk result (λ last. replies.old ≡ replies.new ++ last) }
+{
+    let mut first = mem::replace(replies, Replies::new(alloc)).into_vec();
+    let place = first.len().saturating_sub(count);
+    let Ok(last) = first.split_off(place) else {
+        return Err(NoMemory);
+    };
+    *replies = Replies::from_vec(first);
+    Ok(Replies::from_vec(last))
 }

@@ -1,5 +1,5 @@
 //! The states of a few keys, which serve batches.
-ghost use Rattle.std.specs.Prelude.{◌≡◌, IfOk};
+ghost use Rattle.std.specs.Prelude.{◌≡◌, ◌++◌, IfOk, OnOk};
 ghost use Rattle.ax_state.specs.KeyCells.{cell_kinds};
 ghost use Rattle.ax_lang.specs.Shown.{shown_kinds};
 ghost use Rattle.ax_core.specs.Events.{names_in, names_of};
@@ -57,18 +57,17 @@ fn serve_item(program: &Program, states: &mut States, item: &Item) -> Result<Ans
     }
 }
 
-/// Serves a batch in order.
+/// Serves a batch in order. Its replies go behind those that are there.
 pub fn serve(
-    alloc: Global,
     program: &Program,
     states: &mut States,
     batch: Batch,
-) -> Result<Replies, NoMemory>
+    replies: &mut Replies,
+) -> Result<(), NoMemory>
     requires { AreFor program.now states.old }
     ensures states { AreFor program.now states.new }
-    ensures names { IfOk result (λ replies. names_of replies ≡ names_in batch) }
+    ensures names { OnOk result (names_of replies.new ≡ names_of replies.old ++ names_in batch) }
 {
-    let mut replies = Replies::new(alloc);
     for item in batch.into_vec() {
         let answer = serve_item(program, states, &item)?;
         replies.push(Reply {
@@ -77,5 +76,5 @@ pub fn serve(
             answer,
         })?;
     }
-    Ok(replies)
+    Ok(())
 }

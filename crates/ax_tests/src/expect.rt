@@ -127,8 +127,8 @@ pub fn expect_events(
     expect(rt, &[input.as_slice()], out, status)
 }
 
-// A text with line feeds in place of `;`.
-fn fed(alloc: Global, text: &str) -> Result<Bytes, NoMemory> {
+/// A text with line feeds in place of `;`.
+pub fn fed(alloc: Global, text: &str) -> Result<Bytes, NoMemory> {
     let mut bytes = Bytes::new(alloc);
     for byte in text.as_bytes() {
         bytes.push(if *byte == b';' { b'\n' } else { *byte })?;

@@ -4,6 +4,10 @@
 #[cfg(test)]
 mod by_key;
 #[cfg(test)]
+mod drawn;
+#[cfg(test)]
+mod draws;
+#[cfg(test)]
 mod events;
 #[cfg(test)]
 mod expect;
@@ -17,8 +21,12 @@ mod language;
 #[cfg(test)]
 mod limits;
 #[cfg(test)]
+mod orders;
+#[cfg(test)]
 mod outside;
 #[cfg(test)]
 mod programs;
 #[cfg(test)]
 mod timers;
+#[cfg(test)]
+mod ways;
