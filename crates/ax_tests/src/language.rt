@@ -63,6 +63,16 @@ input 1;state m map;on row;both;put m 1 , 1;with;emit 1;end;end;%%;r a 1 5;||p 7
 input 1;on row;if v1;emit 1;end;%%;r a 1 5;||p 6 10
 input 1;on row;if v1;emit 1;else;end;else;end;%%;r a 1 5;||p 7 1";
 
+// The programs of `examples/`, without their comments.
+const EXAMPLES: &str = "\
+input 2;state balance value;state moves value;on row;old = get balance or 0;count = get moves or 0;put balance old + v1 - v2;put moves count + 1;emit old + v1 - v2 , count + 1;end;%%;r alice 1 100 0;r bob 2 40 0;r alice 3 0 130;r bob 4 25 15;r alice 5 55 0;|o alice 100 1;o bob 40 1;o alice -30 2;o bob 50 2;o alice 25 3;|
+input 1;state reading value;state taken value;on row;last = get reading or v1;then = get taken or time;put reading v1;put taken time;emit v1 - last , time - then;end;%%;r cellar 60 12;r attic 61 25;r cellar 120 13;r attic 125 21;r cellar 240 13;r attic 245 -2;|o cellar 0 0;o attic 0 0;o cellar 1 60;o attic -4 64;o cellar 0 120;o attic -23 120;|
+input 1;state views value;state seconds value;on row;n = get views or 0;s = get seconds or 0;put views n + 1;put seconds s + v1;emit n + 1 , s + v1;end;%%;r /home 1000 12;r /about 1003 30;r /home 1010 8;r /home 1025 41;r /about 1040 5;|o /home 1 12;o /about 1 30;o /home 2 20;o /home 3 61;o /about 2 35;|
+input 1;state visits map;on row;n = get visits v1 or 0;put visits v1 , n + 1;timer ( time / 60 + 1 ) * 60;end;on timer;let top = 0;let most = 0;let pages = 0;each page count in visits;let pages = pages + 1;if count > most;let top = page;let most = count;end;end;emit top , most , pages;clear visits;end;%%;r shop 3 7;r shop 20 4;r blog 31 1;r shop 44 7;b 1;w 60;r shop 61 4;r blog 70 2;r blog 75 1;r blog 90 2;r shop 119 9;w 120;b 2;|s 1 -9223372036854775808;m shop visits 4 1;m shop visits 7 2;t shop 60;m blog visits 1 1;t blog 60;e 1 5;o blog 1 1 1;o shop 7 2 2;w 60;o blog 2 2 2;o shop 4 1 2;w 120;s 2 120;e 2 0;|
+input 1;state readings list;on row;let n = 0;each x in readings;let n = n + 1;end;let i = 0;each x in readings;let i = i + 1;if i == 1;clear readings;end;if i > n - 4;add readings x;end;end;add readings v1;let total = 0;let count = 0;let low = v1;let high = v1;each x in readings;let total = total + x;let count = count + 1;if x < low;let low = x;end;if x > high;let high = x;end;end;emit total / count , low , high;end;%%;r cellar 60 12;r cellar 120 14;r attic 125 30;r cellar 180 13;r cellar 240 40;r cellar 300 11;r cellar 360 12;r attic 365 -5;b 1;r cellar 420 14;|o cellar 12 12 12;o cellar 13 12 14;o attic 30 30 30;o cellar 13 12 14;o cellar 19 12 40;o cellar 18 11 40;o cellar 18 11 40;o attic 12 -5 30;s 1 -9223372036854775808;l cellar readings 14;l cellar readings 13;l cellar readings 40;l cellar readings 11;l cellar readings 12;l attic readings 30;l attic readings -5;e 1 7;o cellar 18 11 40;|
+input 1;state balance value;state moves list;on row;both;old = get balance or 0;let now = old + v1;put balance now;with;add moves v1;let total = 0;each amount in moves;let total = total + amount;end;end;emit now , now == total;end;%%;r alice 1 100;r bob 2 40;r alice 3 -130;r bob 4 -15;r alice 5 55;b 1;|o alice 100 1;o bob 40 1;o alice -30 1;o bob 25 1;o alice 25 1;s 1 -9223372036854775808;c bob balance 25;l bob moves 40;l bob moves -15;c alice balance 25;l alice moves 100;l alice moves -130;l alice moves 55;e 1 7;|
+input 0;state pages value;state ends value;on row;n = get pages or 0;old = get ends or 0;put pages n + 1;put ends time + 30;untimer old;timer time + 30;end;on timer;n = get pages or 0;emit n , time;put pages 0;end;%%;r ada 10;r bob 12;r ada 25;w 40;r ada 50;w 60;b 1;r bob 70;w 100;b 2;|w 40;o bob 1 42;w 60;s 1 60;c bob pages 0;c bob ends 42;c ada pages 3;c ada ends 80;t ada 80;e 1 5;o ada 3 80;o bob 1 100;w 100;s 2 100;c bob pages 0;c bob ends 100;c ada pages 0;c ada ends 80;e 2 4;|";
+
 #[test]
 fn expressions_of_all_signs(rt: HostRuntime) -> Result<(), Fail> {
     let before = b"input 2\non row\nemit ";
@@ -71,7 +81,7 @@ fn expressions_of_all_signs(rt: HostRuntime) -> Result<(), Fail> {
 
 #[test]
 fn statements_of_all_kinds(rt: HostRuntime) -> Result<(), Fail> {
-    for table in [NAMES, LISTS, MAPS, ARMS, FAULTS] {
+    for table in [NAMES, LISTS, MAPS, ARMS, FAULTS, EXAMPLES] {
         expect_table(&rt, b"", table, b"")?;
     }
     Ok(())
