@@ -35,7 +35,7 @@ all_requests a = requests_below a a.settings.shards
 abbrev pub same_asked : Asked → Asked → Bool
 same_asked r q = nat_eq r.context q.context && nat_eq r.slot q.slot
 
--- the request of a key's owner at a slot waits in the queue of the key's shard, or is out of it
+-- what a key's owner asked at a slot waits in the queue of the key's shard, or is out of it
 abbrev pub IsQueuedOrOut : Controller → Key → ℕ → Option Context → Type 0
 IsQueuedOrOut a key slot None = ⊥
 IsQueuedOrOut a key slot (Some c) = Contains (requests_in a (shard_of a.settings key)) (record { context = c.number; slot = slot })

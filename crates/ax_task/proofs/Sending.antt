@@ -19,11 +19,11 @@ use Rattle.ax_core.specs.Sound.{StandsFor, IsSound}
 use Rattle.ax_core.specs.Events.{SameRules, KeysStay, OfKeys, AsksAll, IsBatchOut, ServesAll, names_in}
 use Rattle.ax_core.specs.Batches.{OthersOut}
 use Rattle.ax_core.specs.Order.{SendsFirst, Posts, replies_in}
-use Rattle.ax_task.specs.Serving.{Content, AllFit, replies_to}
+use Rattle.ax_task.specs.Serving.{Content, AllFit}
 use Rattle.ax_task.specs.Shards.{Serving, shard_count, held, out, next_out, IsNext, Stays, Came}
 use Rattle.ax_task.specs.Refined.{content_over, Refines}
 use Rattle.ax_task.specs.Work.{left_to_do}
-use Rattle.ax_task.specs.Engines.{Stands, IsReady, MovesOn, batch_of, order_of}
+use Rattle.ax_task.specs.Engines.{Stands, IsReady, MovesOn, batch_of}
 use Rattle.ax_task.specs.Exchanged.{IsHomeWith, LessIsLeft, NothingWaits, NoneHomeWith, IsSent, IsBack, Exchanges, SendsFull, SendsShort, Serves, Nothing}
 use Rattle.ax_task.specs.declared.engine.Engine.{Engine}
 use Rattle.ax_task.proofs.Exchanges.{sent_on, sent_falls, is_batch_out, came_on, came_falls}
