@@ -1,20 +1,21 @@
 -- A task comes closer to its end with each step, and where nothing can be done it has ended.
-use Rattle.std.proofs.Common.{◌≡◌, ◌<◌, ◌≤◌, false, Option, Some, None, IsSome, IfSome, refl, sym, ap, ◌∙◌, subst, arith}
+use Rattle.std.proofs.Common.{◌≡◌, ◌<◌, ◌≤◌, [], ◌∷◌, ◌++◌, false, Option, Some, None, IsSome, IfSome, refl, sym, ap, ◌∙◌, subst, arith}
 use Rattle.ax_base.specs.Reader.{Reader}
 use Rattle.ax_base.specs.declared.outside.SinkFault.{SinkFault}
 use Rattle.ax_base.specs.declared.outside.SinkFault.TheVariants as sink
+use Rattle.ax_machine.specs.Events.{Event}
 use Rattle.ax_input.specs.declared.event.Event.{Event as CodeEvent}
 use Rattle.ax_execution.specs.MachineControls.{MachineControl, control_of_machine, in_flight_on}
 use Rattle.ax_core.specs.declared.settings.Settings.{Settings}
 use Rattle.ax_core.specs.declared.controller.Controller.{Controller}
 use Rattle.ax_core.specs.May.{has_mail}
 use Rattle.ax_core.specs.Sound.{StandsFor}
-use Rattle.ax_task.specs.Engines.{IsReady, IsQuiet, MovesOn}
+use Rattle.ax_task.specs.Engines.{IsReady, IsQuiet, MovesOn, Takes}
 use Rattle.ax_task.specs.Exchanged.{NothingWaits}
 use Rattle.ax_task.specs.Due.{IsFree, one_held, unread, due, IsLooked, Goes}
 use Rattle.ax_task.specs.Reads.{sink_end}
 use Rattle.ax_task.specs.Causes.{IsAtRest}
-use Rattle.ax_task.specs.Tasks.{EndsWell}
+use Rattle.ax_task.specs.Tasks.{IsFound, EndsWell}
 use Rattle.ax_task.specs.declared.end.End.{End}
 use Rattle.ax_task.specs.declared.end.End.TheVariants as end
 use Rattle.ax_task.specs.declared.engine.Engine.{Engine}
@@ -55,7 +56,7 @@ module _ (e : Engine) (r : Reading) (ready : IsReady e) (quiet : IsQuiet e.core)
     some = subst (λ (s : Settings). 0 < s.in_flight) (sym ready.stands.refines.settings) ready.stands.some;
   }
 
-  none_held : r.next ≡ None
+  pub none_held : r.next ≡ None
   none_held = of r.next blocked
     where
       of : (o : Option CodeEvent) → IfSome o (λ (x : CodeEvent). IsFree e.core → ⊥) → o ≡ None
@@ -68,13 +69,13 @@ module _ (e : Engine) (r : Reading) (ready : IsReady e) (quiet : IsQuiet e.core)
   pub ends_well : (end : End) → r.found ≡ Some end → EndsWell e r end
   ends_well end found s p from lines now x = ended_well s p from e r lines now x end found none_held quiet none_left
 
-  pub at_rest : (end : End) → r.found ≡ Some end → IsAtRest e.core r.found end
-  at_rest end.Ok found = (found, is_free)
-  at_rest (end.Input line kind) found = (found, is_free)
-  at_rest end.Read found = (found, is_free)
-  at_rest end.Write found = tt
-  at_rest end.NoMemory found = tt
-  at_rest (end.Program line kind) found = tt
+  pub at_rest : (end : End) → r.found ≡ Some end → IsFound r.found → IsAtRest e.core r.found end
+  at_rest end.Ok found is = (found, is_free)
+  at_rest (end.Input line kind) found is = (found, is_free)
+  at_rest end.Read found is = (found, is_free)
+  at_rest end.Write found is = tt
+  at_rest end.NoMemory found is = tt
+  at_rest (end.Program line kind) found is = subst IsFound found is
 
   pub cant_be : IsLooked r → r.found ≡ None → ⊥
   cant_be looked none = of r.found none (looked none_held)
@@ -93,6 +94,9 @@ sink_rest a found f e is = subst (IsAtRest a found) (sym is) (of f)
 
 pub moved_ready : (e e' : Engine) → MovesOn e e' → IsReady e → IsReady e'
 moved_ready e e' on x = record { settings = x.settings; program = x.program; read = x.read; written = x.written; stands = on x.settings x.program x.read x.written x.stands }
+
+pub took_ready : (e e' : Engine) (v : Event) → Takes e e' v → IsReady e → IsReady e'
+took_ready e e' v t x = record { settings = x.settings; program = x.program; read = x.read ++ v ∷ []; written = x.written; stands = t x.settings x.program x.read x.written x.stands }
 
 pub blocked_as : (a b : Controller) (o : Option CodeEvent) → b ≡ a → IfSome o (λ (x : CodeEvent). IsFree a → ⊥) → IfSome o (λ (x : CodeEvent). IsFree b → ⊥)
 blocked_as a b o e h = subst (λ (c : Controller). IfSome o (λ (x : CodeEvent). IsFree c → ⊥)) (sym e) h

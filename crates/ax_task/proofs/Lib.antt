@@ -18,6 +18,7 @@ pub mod Knowing
 pub mod Working
 pub mod Falling
 pub mod Exchanges
+pub mod Done
 pub mod Written
 pub mod EngineLemmas
 pub mod BatchLemmas
@@ -29,4 +30,5 @@ pub mod Sending
 pub mod Idle
 pub mod Lesser
 pub mod Going
+pub mod Stepping
 pub mod Running

@@ -4,7 +4,7 @@ use Rattle.std.proofs.lemmas.List.{take-take, take_all, length-take}
 use Rattle.std.proofs.lemmas.Option.{none-some}
 use Rattle.std.specs.Io.KnownBytes.{Keeps, append_known}
 use Rattle.ax_base.specs.Gathered.{Begins}
-use Rattle.ax_base.specs.Outside.{RoseByOne, Counts, WriteCounts}
+use Rattle.ax_base.specs.Outside.{Counts, WriteCounts}
 use Rattle.ax_base.specs.Reader.{Reader}
 use Rattle.ax_base.specs.declared.outside.SinkFault.{SinkFault}
 use Rattle.ax_lang.specs.declared.program.Program.{Program}
@@ -16,16 +16,14 @@ use Rattle.ax_core.specs.declared.settings.Settings.{Settings}
 use Rattle.ax_core.specs.declared.controller.Controller.{Controller}
 use Rattle.ax_task.specs.Reads.{sink_end, is_stopped}
 use Rattle.ax_task.specs.Clause.{EndCounts}
-use Rattle.ax_task.specs.Engines.{Stands, IsReady}
+use Rattle.ax_task.specs.Engines.{Stands}
 use Rattle.ax_task.specs.Exchanged.{LessIsLeft}
 use Rattle.ax_task.specs.Due.{due}
-use Rattle.ax_task.specs.Tasks.{Outer, From, MayRead, IsUnderway, HasEnded}
+use Rattle.ax_task.specs.Tasks.{Outer, From, IsUnderway, HasEnded}
 use Rattle.ax_task.specs.Unused.{IsUnused}
-use Rattle.ax_task.specs.Causes.{IsAtRest, IsCaused}
-use Rattle.ax_task.specs.Running.{State, start, IsRunning, IsOnItsWay, DidLeaves, IsNearer}
+use Rattle.ax_task.specs.Running.{State, start, IsRunning, DidLeaves, IsNearer}
 use Rattle.ax_task.specs.declared.driver.Did.{Did}
 use Rattle.ax_task.specs.declared.end.End.{End}
-use Rattle.ax_task.specs.declared.end.End.TheVariants as end
 use Rattle.ax_task.specs.declared.engine.Engine.{Engine}
 use Rattle.ax_task.specs.declared.reading.Reading.{Reading}
 use Rattle.ax_task.proofs.Gathering.{known_nil, keeps_nil, part_same, part_kept, told_stopped, told_kept, told_cut, stop_stopped, stop_kept, stop_cut, counts_cut}
@@ -84,41 +82,12 @@ starts_running s p last e r lines gathered now x fields is next found may none =
   begun = begins_refl now.holds;
 }
 
--- somewhere on its way
-pub ready_there : (t : State) (now : Outer) → IsOnItsWay t now → IsReady t.engine
-ready_there t now w = let x = w.running.underway in record { settings = w.settings; program = w.program; read = x.read; written = x.written; stands = x.stands }
-
-pub may_there : (t : State) (now : Outer) → IsOnItsWay t now → MayRead t.lines t.reading.found
-may_there t now w = w.running.underway.has_read.may
-
-pub way_on : (t : State) (now : Outer) (t' : State) (now' : Outer) → IsOnItsWay t now → ((s : Settings) (p : Program) (from : From) → IsRunning s p from t now → IsRunning s p from t' now') → IsOnItsWay t' now'
-way_on t now t' now' w on = record { settings = w.settings; program = w.program; from = w.from; running = on w.settings w.program w.from w.running }
-
 pub no_more : (a b c : ℕ) → a ≤ b → b ≤ c → a ≤ c
 no_more a b c h k = omega (arith, h, k)
 
 -- where no event was taken, there is less to do
 pub nearer_worked : (took : Bool) (t t' : State) → took ≡ false → IsNearer took t t' → LessIsLeft t.engine t'.engine × (due t'.reading t'.lines ≤ due t.reading t.lines)
 nearer_worked took t t' is h = subst (λ (b : Bool). IsNearer b t t') is h
-
--- the cause of an end
-pub caused : (t : State) (old now : Outer) (a : Controller) (found : Option End) (e : End) → IsOnItsWay t old
-    → ((s : Settings) (p : Program) (from : From) → IsRunning s p from t old → HasEnded s p from now e) → IsAtRest a found e → IsCaused a found old.writes now.writes e
-caused t old now a found e w on rest = of e (on w.settings w.program w.from w.running) rest
-  where
-    before : old.writes ≡ w.from.outer.writes
-    before = w.running.underway.writes
-
-    of : (e : End) → HasEnded w.settings w.program w.from now e → IsAtRest a found e → IsCaused a found old.writes now.writes e
-    of end.Ok x r = r
-    of (end.Input line kind) x r = r
-    of end.Read x r = r
-    of end.Write x r = subst (λ (c : Counts). RoseByOne c.faults now.writes.faults) (sym before) x.counts.1
-    of end.NoMemory x r = tt
-    of (end.Program line kind) x r = x.stopped.2
-
-pub on_its_way : (s : Settings) (p : Program) (from : From) (t : State) (now : Outer) → IsRunning s p from t now → IsOnItsWay t now
-on_its_way s p from t now x = record { settings = s; program = p; from = from; running = x }
 
 -- a controller that was just made
 pub first_unused : (s : Settings) (p : Program) (a : Controller) → IsSound a → a.settings ≡ s → a.program ≡ p → StandsFor a (at_origin (first (shown_program p))) → IsUnused s a

@@ -17,4 +17,7 @@ pub mod Exchanged
 pub mod Due
 pub mod Unused
 pub mod Causes
+pub mod Steady
 pub mod Running
+pub mod Calls
+pub mod Things

@@ -10,6 +10,7 @@ use Rattle.ax_core.specs.declared.controller.Controller.{Controller}
 use Rattle.ax_task.specs.Passes.{events_at}
 use Rattle.ax_task.specs.Exchanged.{LessIsLeft}
 use Rattle.ax_task.specs.Due.{due}
+use Rattle.ax_task.specs.Steady.{CanGoOn}
 use Rattle.ax_task.specs.Tasks.{Outer, From, IsUnderway, HasEnded}
 use Rattle.ax_task.specs.declared.end.End.{End}
 use Rattle.ax_task.specs.declared.engine.Engine.{Engine}
@@ -56,12 +57,14 @@ pub record IsRunning (s : Settings) (p : Program) (from : From) (t : State) (now
   pub underway : IsUnderway s p from t.engine t.reading t.lines (with_gathered t.gathered now)
   pub begun : Begins from.outer.holds now.holds
 
--- some run has come so far
-pub record IsOnItsWay (t : State) (now : Outer) : Type 0 where
-  pub settings : Settings
-  pub program : Program
-  pub from : From
-  pub running : IsRunning settings program from t now
+-- a task that can go on, whatever its source and its sink are
+abbrev pub IsSteady : Task → Type 0
+IsSteady t = CanGoOn t.driver.engine t.driver.reading t.lines
+
+abbrev pub StaysSteady : Task → Step → Type 0
+StaysSteady t step.Went = IsSteady t
+StaysSteady t step.Wait = IsSteady t
+StaysSteady t (step.End end) = Unit {0}
 
 -- what was done leaves a run that has come so far, or has ended so
 abbrev pub DidLeaves : Settings → Program → From → State → Outer → Did → Type 0

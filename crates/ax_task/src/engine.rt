@@ -1,15 +1,20 @@
 //! The controller with its shards: what there is to do between two events.
 ghost use Rattle.std.specs.Prelude.{◌≡◌, ◌<◌, [], true, false, int_lt, IfOk, OnOk, OnErr};
-ghost use Rattle.std.specs.Io.KnownBytes.{append_known};
+ghost use Rattle.std.specs.Io.KnownBytes.{Appends, append_known};
 ghost use Rattle.ax_base.specs.Outside.{OwnCounts};
+ghost use Rattle.ax_machine.specs.Entries.{says, text_of};
 ghost use Rattle.ax_machine.specs.Events.{Mark};
 ghost use Rattle.ax_input.specs.Shown.{shown_event};
 ghost use Rattle.ax_execution.specs.MachineControls.{MachineControl};
 ghost use Rattle.ax_execution.specs.ControlsAllowed.{FirstIsFinishedOn};
+ghost use Rattle.ax_core.specs.declared.effects.Fired.{Fired as AnyFired};
+ghost use Rattle.ax_core.specs.declared.effects.Effects.{Effects as AnyEffects};
 ghost use Rattle.ax_core.specs.May.{may_fire, may_close, has_mail};
 ghost use Rattle.ax_core.specs.Sound.{StandsFor};
 ghost use Rattle.ax_task.specs.Exchanged.{LessIsLeft};
 ghost use Rattle.ax_task.specs.Due.{IsFree};
+ghost use Rattle.ax_task.specs.Calls.{HasFired, HasRun, HasMarked, HasTaken};
+ghost use Rattle.ax_task.specs.Things.{OutputStays, SendsThrough, DoesWork, NoWork};
 ghost use Rattle.ax_task.specs.Unused.{IsUnused, program_of};
 ghost use Rattle.ax_task.specs.Engines.{Stands, ShardsStay, batch_of, order_of, IsReady, MovesOn, Takes, Writes, WritesSome, IsQuiet, WroteMarker, WritesPart, may_take};
 
@@ -83,6 +88,7 @@ impl Engine {
         ensures moves { OnOk result (MovesOn self.old self.new) }
         ensures shards { ShardsStay self.old self.new }
         ensures falls { OnOk result (LessIsLeft self.old self.new) }
+        ensures fired { OnOk result ((f : AnyFired) × HasFired self.old self.new f) }
     {
         self.core.fire_next()?;
         Ok(())
@@ -96,6 +102,7 @@ impl Engine {
         ensures writes { OnOk result (Writes self.old self.new (K.holds out.old) (K.holds out.new)) }
         ensures shards { ShardsStay self.old self.new }
         ensures falls { OnOk result (LessIsLeft self.old self.new) }
+        ensures ran { OnOk result ((f : AnyEffects) × HasRun self.old self.new f × Appends (K.holds out.old) (K.holds out.new) (text_of (says f.key f.outs))) }
         ensures part { OnErr result (WritesSome self.old (K.holds out.old) (K.holds out.new)) }
         ensures counts { OwnCounts (K.counts out.old) (K.counts out.new) result }
         ensures base { K.base out.new ≡ K.base out.old }
@@ -172,6 +179,8 @@ impl Engine {
         ensures still { IfOk result (λ sent. sent ≡ false → self.new ≡ self.old) }
         ensures falls { IfOk result (λ sent. sent ≡ true → LessIsLeft self.old self.new) }
         ensures flushed { IfOk result (λ sent. sent ≡ true → out.new.room.now ≡ []) }
+        ensures sent { IfOk result (λ sent. sent ≡ true → SendsThrough self.old self.new (record { holds = K.holds out.old.inner.now; gathered = out.old.room.now }) (record { holds = K.holds out.new.inner.now; gathered = out.new.room.now })) }
+        ensures unwritten { IfOk result (λ sent. sent ≡ false → OutputStays (record { holds = K.holds out.old.inner.now; gathered = out.old.room.now }) (record { holds = K.holds out.new.inner.now; gathered = out.new.room.now })) }
         ensures part { OnErr result (WritesSome self.old (append_known (K.holds out.old.inner.now) out.old.room.now) (append_known (K.holds out.new.inner.now) out.new.room.now)) }
         ensures counts { OwnCounts (K.counts out.old.inner.now) (K.counts out.new.inner.now) result }
         ensures same { out.new.inner.ghost_name ≡ out.old.inner.ghost_name }
@@ -193,6 +202,9 @@ impl Engine {
         ensures shards { ShardsStay self.old self.new }
         ensures still { IfOk result (λ done. done ≡ false → self.new ≡ self.old) }
         ensures falls { IfOk result (λ done. done ≡ true → LessIsLeft self.old self.new) }
+        ensures works { IfOk result (λ done. done ≡ true → DoesWork self.old self.new (record { holds = K.holds out.old.inner.now; gathered = out.old.room.now }) (record { holds = K.holds out.new.inner.now; gathered = out.new.room.now })) }
+        ensures no_work { IfOk result (λ done. done ≡ false → NoWork self.old) }
+        ensures unwritten { IfOk result (λ done. done ≡ false → OutputStays (record { holds = K.holds out.old.inner.now; gathered = out.old.room.now }) (record { holds = K.holds out.new.inner.now; gathered = out.new.room.now })) }
         ensures part { OnErr result (WritesSome self.old (append_known (K.holds out.old.inner.now) out.old.room.now) (append_known (K.holds out.new.inner.now) out.new.room.now)) }
         ensures counts { OwnCounts (K.counts out.old.inner.now) (K.counts out.new.inner.now) result }
         ensures same { out.new.inner.ghost_name ≡ out.old.inner.ghost_name }
@@ -227,6 +239,7 @@ impl Engine {
         requires ready { IsReady self.old }
         requires may { may_take self.old.core (shown_event event) ≡ true }
         ensures takes { OnOk result (Takes self.old self.new (shown_event event)) }
+        ensures taken { OnOk result (HasTaken self.old self.new event) }
         ensures shards { ShardsStay self.old self.new }
     {
         match event {
@@ -252,6 +265,7 @@ impl Engine {
         requires ready { IsReady self.old }
         requires may { may_close self.old.core ≡ true }
         ensures takes { OnOk result (Takes self.old self.new (Mark time.now)) }
+        ensures marked { OnOk result (HasMarked (int_lt self.old.core.wm time.now) self.old self.new time.now) }
         ensures shards { ShardsStay self.old self.new }
     {
         if self.is_greater(time) {

@@ -1,6 +1,7 @@
 //! The event that was read and not yet taken, and what the reader of events found behind the last.
-ghost use Rattle.std.specs.Prelude.{◌≡◌, ◌≤◌, None, false, OnOk, OnErr};
+ghost use Rattle.std.specs.Prelude.{◌≡◌, ◌≤◌, None, false, IfSome, OnOk, OnErr};
 ghost use Rattle.ax_task.specs.Due.{due, IsLooked};
+ghost use Rattle.ax_task.specs.Things.{IsNextOf, Looks};
 ghost use Rattle.ax_task.specs.Tasks.{Finds, MayRead, ReadsOn, ReadsShort};
 
 use crate::end::End;
@@ -50,6 +51,7 @@ impl Reading {
         ensures short { OnErr result (ReadsShort self.old lines.old (S.left input.old) (S.left input.new) (S.faults input.old)) }
         ensures count { OnErr result (S.faults input.new ≡ S.faults input.old) }
         ensures finds { Finds self.old.found self.new.found (S.left input.old) (S.left input.new) (S.faults input.old) (S.faults input.new) }
+        ensures looks { OnOk result (Looks (record { reading = self.old; lines = lines.old; left = S.left input.old; reads = S.faults input.old }) (record { reading = self.new; lines = lines.new; left = S.left input.new; reads = S.faults input.new })) }
     {
         if self.next.is_some() || self.found.is_some() {
             return Ok(());
@@ -73,6 +75,7 @@ impl Reading {
         ensures due { OnOk result (due self.new lines.new ≤ due self.old lines.old) }
         ensures short { OnErr result (ReadsShort self.old lines.old (S.left input.old) (S.left input.new) (S.faults input.old)) }
         ensures count { OnErr result (S.faults input.new ≡ S.faults input.old) }
+        ensures gives { OnOk result (IfSome self.new.next (IsNextOf (record { reading = self.old; lines = lines.old; left = S.left input.old; reads = S.faults input.old }) (record { reading = self.new; lines = lines.new; left = S.left input.new; reads = S.faults input.new }))) }
         ensures finds { Finds self.old.found self.new.found (S.left input.old) (S.left input.new) (S.faults input.old) (S.faults input.new) }
     {
         match self.events.next(alloc, lines, input) {

@@ -2,7 +2,7 @@
 ghost use Rattle.std.specs.Prelude.{◌≡◌, ◌≢◌, ◌<◌, ◌+◌, true, false, IfOk, IfNone, Option, None, List, ℕ};
 ghost use Rattle.std.specs.Io.KnownBytes.{append_known};
 ghost use Rattle.ax_base.specs.Gathered.{Begins};
-ghost use Rattle.ax_base.specs.Outside.{Told};
+ghost use Rattle.ax_base.specs.Outside.{Told, Counts};
 ghost use Rattle.ax_base.specs.Given.{ahead};
 ghost use Rattle.ax_base.specs.Reader.{Reader};
 ghost use Rattle.ax_machine.specs.Events as shown;
@@ -15,13 +15,15 @@ ghost use Rattle.ax_task.specs.Parse.{parse, stream_of, first_last};
 ghost use Rattle.ax_task.specs.Reads.{end_in_section};
 ghost use Rattle.ax_task.specs.Clause.{WritesLawful, StreamEnds, RunEnds, Stops, EndCounts};
 ghost use Rattle.ax_task.specs.Passes.{events_at, feed_of, Took, Wrote};
-ghost use Rattle.ax_task.specs.Engines.{IsReady};
+ghost use Rattle.ax_task.specs.Engines.{IsReady, batch_of, order_of};
 ghost use Rattle.ax_task.specs.Due.{Goes, due};
-ghost use Rattle.ax_task.specs.Tasks.{Outer, From, MayRead, Finds, HasEnded};
+ghost use Rattle.ax_task.specs.Steady.{CanGoOn, Where};
+ghost use Rattle.ax_task.specs.Things.{Does, Rests, Ends, ByEnd, ByDid, StepDoes};
+ghost use Rattle.ax_task.specs.Tasks.{Outer, From, MayRead, IsFound, Finds, HasEnded};
 ghost use Rattle.ax_task.specs.Tasks as tasks;
-ghost use Rattle.ax_task.specs.Causes.{IsAtRest, EndsAtRest, EndIsCaused};
+ghost use Rattle.ax_task.specs.Causes.{IsAtRest, EndsAtRest, EndWrites, DidCounts, StepIsCaused};
 ghost use Rattle.ax_task.specs.Unused.{IsUnused, program_of};
-ghost use Rattle.ax_task.specs.Running.{state_of, has_ended, found_of, controller_of, took_event, start, IsRunning, IsOnItsWay, DidLeaves, GoesOn, ComesNearer, is_end, step_of, RunEndsAs};
+ghost use Rattle.ax_task.specs.Running.{State as AnyState, state_of, has_ended, found_of, controller_of, took_event, start, IsSteady, StaysSteady, IsRunning, DidLeaves, GoesOn, ComesNearer, is_end, step_of, RunEndsAs};
 ghost use Rattle.ax_task.specs.declared.end.End.{End as AnyEnd};
 ghost use Rattle.ax_task.specs.declared.engine.Engine.{Engine as AnyEngine};
 ghost use Rattle.ax_task.specs.declared.reading.Reading.{Reading as AnyReading};
@@ -93,6 +95,9 @@ impl Task {
         ensures found { IfOk result (λ t. found_of t ≡ None) }
         ensures ended { IfOk result (λ t. has_ended t ≡ false) }
         ensures core { IfOk result (λ t. controller_of t ≡ core) }
+        ensures steady { IfOk result IsSteady }
+        ensures batch { IfOk result (λ t. batch_of (state_of t).engine ≡ c.now.batch) }
+        ensures order { IfOk result (λ t. order_of (state_of t).engine ≡ order) }
     {
         let reading = Reading::new(alloc, core.program().fields(), &last_id);
         let engine = Engine::new(alloc, c, core, order)?;
@@ -116,12 +121,15 @@ impl Task {
     /// home, the next event is read and taken, or a batch that is out is served and its replies are delivered. Where there is
     /// nothing of that, the run has ended.
     ///
-    /// Condition: the run has not ended, and `input` and `out` are where the last step left them; `new` makes a task for any.
+    /// Condition: the run has not ended. What is said of the bytes that are read and written is said of an `input` and an `out` that
+    /// are where the last step left them; `new` makes a task for any.
     ///
     /// Lines are gathered, and written when 65,536 bytes are there, after each marker, and at an end by `Ok`, `Input` or `Read`.
     /// Looking at the input is no step of its own: what it finds, `found` tells from then on, and nothing more is read.
     ///
-    /// - `Went`: one thing was done, and the run is nearer to its end: fewer events may come, or as many and there is less to do.
+    /// - `Went`: one thing was done, the first that can be done of these: the key that has been idle longest fires; the first mail is
+    ///   run; the oldest closed epoch's marker is sent; the next event is taken; a full batch is sent; a batch that is out is served;
+    ///   one that isn't full is sent. The run is nearer to its end: fewer events may come, or as many and there is less to do.
     /// - `Wait` never comes, since the task serves batches itself.
     /// - `End` with `Ok`, `Input` or `Read`: it is what `found` tells, nothing is in flight, and no marker is to be sent. All lines
     ///   of the events that were read are written.
@@ -129,12 +137,14 @@ impl Task {
     /// - `End` with `Program` never comes.
     pub fn step<S: Source, K: Sink>(&mut self, input: &mut S, out: &mut K) -> Step
         requires going { has_ended self.old ≡ false }
-        requires running { IsOnItsWay (state_of self.old) (record { left = S.left input.old; reads = S.faults input.old; holds = K.holds out.old; writes = K.counts out.old }) }
+        requires steady { IsSteady self.old }
         ensures goes { GoesOn (state_of self.old) (state_of self.new) (record { left = S.left input.old; reads = S.faults input.old; holds = K.holds out.old; writes = K.counts out.old }) (record { left = S.left input.new; reads = S.faults input.new; holds = K.holds out.new; writes = K.counts out.new }) result }
         ensures nearer { ComesNearer (took_event self.new) (state_of self.old) (state_of self.new) result }
         ensures never { result ≢ Step.Wait }
         ensures finds { Finds (found_of self.old) (found_of self.new) (S.left input.old) (S.left input.new) (S.faults input.old) (S.faults input.new) }
-        ensures cause { EndIsCaused (controller_of self.new) (found_of self.new) (K.counts out.old) (K.counts out.new) result }
+        ensures cause { StepIsCaused (controller_of self.new) (found_of self.new) (K.counts out.old) (K.counts out.new) result }
+        ensures does { StepDoes (state_of self.old) (state_of self.new) (record { left = S.left input.old; reads = S.faults input.old; holds = K.holds out.old; writes = K.counts out.old }) (record { left = S.left input.new; reads = S.faults input.new; holds = K.holds out.new; writes = K.counts out.new }) result }
+        ensures steady { StaysSteady self.new result }
         ensures ended { has_ended self.new ≡ is_end result }
     {
         match advance::<S, K, Brand>(
@@ -185,10 +195,11 @@ impl Task {
     // Goes by steps until an event was taken, or the run has ended so.
     fn until_taken<S: Source, K: Sink>(&mut self, input: &mut S, out: &mut K) -> Option<End>
         requires going { has_ended self.old ≡ false }
-        requires running { IsOnItsWay (state_of self.old) (record { left = S.left input.old; reads = S.faults input.old; holds = K.holds out.old; writes = K.counts out.old }) }
+        requires steady { IsSteady self.old }
         ensures goes { GoesOn (state_of self.old) (state_of self.new) (record { left = S.left input.old; reads = S.faults input.old; holds = K.holds out.old; writes = K.counts out.old }) (record { left = S.left input.new; reads = S.faults input.new; holds = K.holds out.new; writes = K.counts out.new }) (step_of result) }
         ensures nearer { IfNone result (due (state_of self.new).reading (state_of self.new).lines < due (state_of self.old).reading (state_of self.old).lines) }
         ensures going { IfNone result (has_ended self.new ≡ false) }
+        ensures steady { IfNone result (IsSteady self.new) }
     {
         'round: loop {
             match self.step(input, out) {
@@ -210,6 +221,10 @@ fn finish_end<K: Sink, B: Begun>(end: End, out: &mut Gather<'_, K, B>) -> End
         → HasEnded s p from (record { left = left; reads = reads; holds = append_known (K.holds out.old.inner.now) out.old.room.now; writes = K.counts out.old.inner.now }) end
         → HasEnded s p from (record { left = left; reads = reads; holds = K.holds out.new.inner.now; writes = K.counts out.new.inner.now }) result }
     ensures rest { (a : AnyController) (found : Option AnyEnd) → IsAtRest a found end → IsAtRest a found result }
+    ensures counts { (before : Counts) → EndWrites before (K.counts out.old.inner.now) end → EndWrites before (K.counts out.new.inner.now) result }
+    ensures ends { (t : AnyState) (old : Outer) (e : AnyEngine) (r : AnyReading) (lines : Reader) (left : Option (List ℕ)) (reads : ℕ)
+        → ByEnd (Rests t (record { engine = e; reading = r; lines = lines; gathered = out.old.room.now }) old (record { left = left; reads = reads; holds = K.holds out.old.inner.now; writes = K.counts out.old.inner.now })) end
+        → ByEnd (Ends t (record { engine = e; reading = r; lines = lines; gathered = out.new.room.now }) old (record { left = left; reads = reads; holds = K.holds out.new.inner.now; writes = K.counts out.new.inner.now })) result }
     ensures same { out.new.inner.ghost_name ≡ out.old.inner.ghost_name }
 {
     if is_stopped(&end) {
@@ -228,6 +243,11 @@ fn finish<K: Sink, B: Begun>(did: Did, out: &mut Gather<'_, K, B>) -> Did
         → DidLeaves s p from (record { engine = e; reading = r; lines = lines; gathered = out.new.room.now }) (record { left = left; reads = reads; holds = K.holds out.new.inner.now; writes = K.counts out.new.inner.now }) result }
     ensures goes { (e e2 : AnyEngine) (r r2 : AnyReading) (lines lines2 : Reader) → Goes e e2 r r2 lines lines2 did → Goes e e2 r r2 lines lines2 result }
     ensures rest { (a : AnyController) (found : Option AnyEnd) → EndsAtRest a found did → EndsAtRest a found result }
+    ensures counts { (before : Counts) → DidCounts before (K.counts out.old.inner.now) did → DidCounts before (K.counts out.new.inner.now) result }
+    ensures steady { (e : AnyEngine) (r : AnyReading) (lines : Reader) → Where did (CanGoOn e r lines) → Where result (CanGoOn e r lines) }
+    ensures does { (t : AnyState) (old : Outer) (e : AnyEngine) (r : AnyReading) (lines : Reader) (left : Option (List ℕ)) (reads : ℕ)
+        → ByDid (Does t (record { engine = e; reading = r; lines = lines; gathered = out.old.room.now }) old (record { left = left; reads = reads; holds = K.holds out.old.inner.now; writes = K.counts out.old.inner.now })) (Rests t (record { engine = e; reading = r; lines = lines; gathered = out.old.room.now }) old (record { left = left; reads = reads; holds = K.holds out.old.inner.now; writes = K.counts out.old.inner.now })) did
+        → ByDid (Does t (record { engine = e; reading = r; lines = lines; gathered = out.new.room.now }) old (record { left = left; reads = reads; holds = K.holds out.new.inner.now; writes = K.counts out.new.inner.now })) (Ends t (record { engine = e; reading = r; lines = lines; gathered = out.new.room.now }) old (record { left = left; reads = reads; holds = K.holds out.new.inner.now; writes = K.counts out.new.inner.now })) result }
     ensures same { out.new.inner.ghost_name ≡ out.old.inner.ghost_name }
 {
     match did {
@@ -252,12 +272,17 @@ fn advance<S: Source, K: Sink, B: Begun>(
     requires base { K.base out.now ≡ B.base }
     requires ready { IsReady driver.old.engine }
     requires may { MayRead lines.old driver.old.reading.found }
+    requires found { IsFound driver.old.reading.found }
     ensures leaves { (s : AnySettings) (p : CodeProgram) (from : From)
         → IsRunning s p from (record { engine = driver.old.engine; reading = driver.old.reading; lines = lines.old; gathered = room.old }) (record { left = S.left input.old; reads = S.faults input.old; holds = K.holds out.old; writes = K.counts out.old })
         → DidLeaves s p from (record { engine = driver.new.engine; reading = driver.new.reading; lines = lines.new; gathered = room.new }) (record { left = S.left input.new; reads = S.faults input.new; holds = K.holds out.new; writes = K.counts out.new }) result }
     ensures goes { Goes driver.old.engine driver.new.engine driver.old.reading driver.new.reading lines.old lines.new result }
     ensures finds { Finds driver.old.reading.found driver.new.reading.found (S.left input.old) (S.left input.new) (S.faults input.old) (S.faults input.new) }
     ensures rest { EndsAtRest driver.new.engine.core driver.new.reading.found result }
+    ensures counts { DidCounts (K.counts out.old) (K.counts out.new) result }
+    ensures steady { Where result (CanGoOn driver.new.engine driver.new.reading lines.new) }
+    ensures does { ByDid (Does (record { engine = driver.old.engine; reading = driver.old.reading; lines = lines.old; gathered = room.old }) (record { engine = driver.new.engine; reading = driver.new.reading; lines = lines.new; gathered = room.new }) (record { left = S.left input.old; reads = S.faults input.old; holds = K.holds out.old; writes = K.counts out.old }) (record { left = S.left input.new; reads = S.faults input.new; holds = K.holds out.new; writes = K.counts out.new }))
+        (Ends (record { engine = driver.old.engine; reading = driver.old.reading; lines = lines.old; gathered = room.old }) (record { engine = driver.new.engine; reading = driver.new.reading; lines = lines.new; gathered = room.new }) (record { left = S.left input.old; reads = S.faults input.old; holds = K.holds out.old; writes = K.counts out.old }) (record { left = S.left input.new; reads = S.faults input.new; holds = K.holds out.new; writes = K.counts out.new })) result }
 {
     let mut sink = Gather::<K, B>::new(spare, out);
     mem::swap(sink.room, room);
@@ -270,7 +295,7 @@ fn advance<S: Source, K: Sink, B: Begun>(
 // Goes by steps until the run has ended.
 fn run_steps<S: Source, K: Sink>(task: &mut Task, input: &mut S, out: &mut K) -> End
     requires going { has_ended task.old ≡ false }
-    requires running { IsOnItsWay (state_of task.old) (record { left = S.left input.old; reads = S.faults input.old; holds = K.holds out.old; writes = K.counts out.old }) }
+    requires steady { IsSteady task.old }
     ensures ended { RunEndsAs (state_of task.old) (record { left = S.left input.old; reads = S.faults input.old; holds = K.holds out.old; writes = K.counts out.old }) (record { left = S.left input.new; reads = S.faults input.new; holds = K.holds out.new; writes = K.counts out.new }) result }
 {
     'step: loop {

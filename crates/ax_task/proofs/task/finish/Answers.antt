@@ -18,3 +18,9 @@ returns-in-End-clause-leaves g c = λ s p from e r lines left reads b x. c.finis
 
 pub returns-in-End-clause-rest : goal.returns-in-End-clause-rest
 returns-in-End-clause-rest g c = λ a found h. c.finish_end.ensures.rest a found (rw c.in-End.is at h)
+
+pub returns-in-End-clause-counts : goal.returns-in-End-clause-counts
+returns-in-End-clause-counts g c = λ before h. c.finish_end.ensures.counts before (rw c.in-End.is at h)
+
+pub returns-in-End-clause-does : goal.returns-in-End-clause-does
+returns-in-End-clause-does g c = λ t old e r lines left reads h. c.finish_end.ensures.ends t old e r lines left reads (rw c.in-End.is at h)

@@ -2,16 +2,13 @@ use Rattle.ax_lang.specs.Shown.{shown_program}
 use Rattle.ax_task.specs.Parse.{first_last}
 use Rattle.ax_task.specs.Passes.{events_at}
 use Rattle.ax_task.proofs.Progress.{stops_once}
-use Rattle.ax_task.proofs.Running.{on_its_way, first_unused}
+use Rattle.ax_task.proofs.Running.{first_unused}
 use Rattle.ax_task.proofs.task.run_events.Goals as goal
 
 pub new-requires-2-clause-unused : goal.new-requires-2-clause-unused
 new-requires-2-clause-unused g c =
     let core = c.in-Ok.ensures in
     first_unused _ _ _ core.sound core.settings core.program core.stands
-
-pub run_steps-requires-clause-running : goal.run_steps-requires-clause-running
-run_steps-requires-clause-running g c = on_its_way _ _ _ _ _ (c.in-Ok-new.ensures.begins c.args.program _ c.in-Ok.ensures.program)
 
 pub returns-clause-told : goal.returns-clause-told
 returns-clause-told g c = (c.run_steps.ensures.ended c.args.config.now.settings c.args.program _ (c.in-Ok-new.ensures.begins c.args.program _ c.in-Ok.ensures.program)).told

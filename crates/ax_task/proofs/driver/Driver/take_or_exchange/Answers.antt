@@ -1,6 +1,8 @@
 use Rattle.std.proofs.Common.{◌≡◌, true, false, rules}
 use Rattle.ax_task.proofs.TaskLemmas.{took_on, same_underway, short_here}
-use Rattle.ax_task.proofs.Going.{took_due, goes_as}
+use Rattle.ax_input.specs.Shown.{shown_event}
+use Rattle.ax_task.proofs.Stepping.{next_as}
+use Rattle.ax_task.proofs.Going.{took_due, took_ready, goes_as}
 use Rattle.ax_task.proofs.driver.Driver.take_or_exchange.Goals as goal
 
 pub returns-in-Ok-true-clause-steps : goal.returns-in-Ok-true-clause-steps
@@ -30,3 +32,15 @@ returns-in-Ok-false-clause-goes c =
     let same = c.in-Ok-false.ensures.same done in
     goes_as c.args.self.now.engine c.take_held.new.self.engine c.exchange.new.self.engine c.args.self.now.reading c.take_held.new.self.reading c.exchange.new.self.reading c.args.lines.now c.args.lines.now c.exchange.result
     same.0 same.1 c.exchange.ensures.goes
+
+pub returns-in-Ok-true-clause-ready : goal.returns-in-Ok-true-clause-ready
+returns-in-Ok-true-clause-ready c =
+    let done : c.in-Ok-true.field-0 ≡ true = search rules in
+    let t = c.in-Ok-true.ensures.taken done in
+    took_ready c.args.self.now.engine c.take_held.new.self.engine (shown_event t.event) t.takes c.requires.ready
+
+pub returns-in-Ok-false-clause-does : goal.returns-in-Ok-false-clause-does
+returns-in-Ok-false-clause-does c =
+    let done : c.in-Ok-false.field-0 ≡ false = search rules in
+    let same = c.in-Ok-false.ensures.same done in
+    next_as c.args.self.now.engine c.take_held.new.self.engine c.exchange.new.self.engine c.args.self.now.reading c.take_held.new.self.reading c.exchange.new.self.reading c.exchange.result same.0 same.1 c.exchange.ensures.does

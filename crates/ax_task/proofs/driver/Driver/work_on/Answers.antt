@@ -5,7 +5,10 @@ use Rattle.ax_task.specs.declared.end.End.{End}
 use Rattle.ax_task.proofs.EngineLemmas.{ready_behind}
 use Rattle.ax_task.proofs.TaskLemmas.{went_on, broke_off}
 use Rattle.ax_task.proofs.Going.{goes_as, sink_rest}
+use Rattle.ax_task.specs.Things.{Works}
+use Rattle.ax_task.specs.Running.{State}
 use Rattle.ax_task.proofs.ReadingLemmas.{finds_same}
+use Rattle.ax_task.proofs.Stepping.{reads_next, counts_still, sink_counts}
 use Rattle.ax_task.proofs.driver.Driver.work_on.Goals as goal
 
 pub read_on-requires-clause-ready : goal.read_on-requires-clause-ready
@@ -60,3 +63,41 @@ returns-in-Err-clause-finds g c = finds_same c.args.self.now.reading.found (g.S.
 
 pub returns-in-Err-clause-rest : goal.returns-in-Err-clause-rest
 returns-in-Err-clause-rest g c = sink_rest c.work.new.self.core c.args.self.now.reading.found c.in-Err.fault c.end_of.result c.end_of.ensures
+
+pub returns-in-Ok-true-clause-does : goal.returns-in-Ok-true-clause-does
+returns-in-Ok-true-clause-does g c =
+    let done : c.in-Ok-true.field-0 ≡ true = search rules in
+    Works (c.in-Ok-true.ensures.works done) refl
+
+pub returns-in-Ok-true-clause-steady : goal.returns-in-Ok-true-clause-steady
+returns-in-Ok-true-clause-steady g c =
+    let held = g.K.Sink.holds in
+    record {
+      ready = ready_behind c.args.self.now.engine c.work.new.self c.requires.ready (append_known (held c.args.out.now.inner.now) c.args.out.now.room.now) (append_known (held c.work.new.out.inner.now) c.work.new.out.room.now) c.in-Ok-true.ensures.writes;
+      may = c.requires.may;
+      found = c.requires.found;
+    }
+
+pub returns-in-Ok-false-clause-does : goal.returns-in-Ok-false-clause-does
+returns-in-Ok-false-clause-does g c =
+    let held = g.K.Sink.holds in
+    let counts = g.K.Sink.counts in
+    let left = g.S.Source.left in
+    let faults = g.S.Source.faults in
+    let t : State = record { engine = c.args.self.now.engine; reading = c.args.self.now.reading; lines = c.args.lines.now; gathered = c.args.out.now.room.now } in
+    let old : Outer = record { left = left c.args.input.now; reads = faults c.args.input.now; holds = held c.args.out.now.inner.now; writes = counts c.args.out.now.inner.now } in
+    let out = c.work.new.out in
+    let done : c.in-Ok-false.field-0 ≡ false = search rules in
+    let read = c.read_on.new in
+    reads_next t (record { engine = read.self.engine; reading = read.self.reading; lines = read.lines; gathered = out.room.now }) old (record { left = left read.input; reads = faults read.input; holds = held out.inner.now; writes = counts out.inner.now })
+    c.work.new.self c.read_on.result (c.in-Ok-false.ensures.no_work done) (c.in-Ok-false.ensures.still done) (c.in-Ok-false.ensures.unwritten done) c.read_on.ensures.does
+
+pub returns-in-Ok-false-clause-counts : goal.returns-in-Ok-false-clause-counts
+returns-in-Ok-false-clause-counts g c =
+    let counts = g.K.Sink.counts in
+    counts_still (counts c.args.out.now.inner.now) (counts c.work.new.out.inner.now) c.read_on.result c.in-Ok-false.ensures.counts (c.read_on.ensures.counts (counts c.args.out.now.inner.now))
+
+pub returns-in-Err-clause-counts : goal.returns-in-Err-clause-counts
+returns-in-Err-clause-counts g c =
+    let counts = g.K.Sink.counts in
+    sink_counts Bool (counts c.args.out.now.inner.now) (counts c.work.new.out.inner.now) c.in-Err.fault c.end_of.result c.end_of.ensures c.in-Err.ensures.counts

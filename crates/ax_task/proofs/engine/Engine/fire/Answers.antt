@@ -12,3 +12,8 @@ pub returns-clause-falls : goal.returns-clause-falls
 returns-clause-falls c =
     let fired = c.in_ok-fire_next.ensures in
     fire_less c.args.self.now (record c.args.self.now { core = c.fire_next.new.self }) (shards_stay _ _ refl refl refl) fired.same c.requires.ready _ fired.event
+
+pub returns-clause-fired : goal.returns-clause-fired
+returns-clause-fired c =
+    let fired = c.in_ok-fire_next.ensures in
+    (c.in_ok-fire_next.field-0, record { event = fired.event; order = fired.order; idle = fired.idle; shards = shards_stay _ _ refl refl refl })

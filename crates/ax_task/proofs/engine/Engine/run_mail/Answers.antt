@@ -36,3 +36,15 @@ returns-clause-falls g c =
     let behind = g.K.Sink.holds c.write_lines.new.out in
     on_ok c.write_lines.result c.write_lines.ensures.lines (λ a.
     mail_less c.args.self.now (record c.args.self.now { core = c.run_mail.new.self }) (shards_stay _ _ refl refl refl) ran.same c.requires.ready c.in-Ok.effects ran.event)
+
+pub returns-clause-ran : goal.returns-clause-ran
+returns-clause-ran g c =
+    let ran = c.in-Ok.ensures in
+    let f = c.in-Ok.effects in
+    let before = g.K.Sink.holds c.args.out.now in
+    let behind = g.K.Sink.holds c.write_lines.new.out in
+    on_ok c.write_lines.result c.write_lines.ensures.lines (λ a. (
+      f,
+      record { event = ran.event; order = ran.order; idle = ran.idle; shards = shards_stay _ _ refl refl refl },
+      subst (λ (ls : List (List ℤ)). Appends before behind (text_of (says f.key ls))) c.as_slice.ensures a,
+    ))

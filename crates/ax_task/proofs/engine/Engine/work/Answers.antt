@@ -3,6 +3,7 @@ use Rattle.ax_time.proofs.KeptLemmas.{if_ok}
 use Rattle.ax_core.specs.May.{has_mail}
 use Rattle.std.specs.Io.KnownBytes.{append_known}
 use Rattle.ax_task.proofs.EngineLemmas.{some_none, writes_none, quiet_if, true_false}
+use Rattle.ax_task.proofs.Done.{works_fire, works_mail, works_marker, no_work}
 use Rattle.ax_task.proofs.engine.Engine.work.Goals as goal
 
 pub returns-in_default-clause-part : goal.returns-in_default-clause-part
@@ -18,3 +19,15 @@ returns-clause-quiet g c =
 
 pub returns-clause-mails : goal.returns-clause-mails
 returns-clause-mails g c = if_ok c.send_marker.result (λ done same. λ h. ap has_mail (same h) ∙ (sym c.mail_waits.ensures.value ∙ c.if-mail_waits.false)) c.send_marker.ensures.core
+
+pub returns-then-may_fire-clause-works : goal.returns-then-may_fire-clause-works
+returns-then-may_fire-clause-works g c = λ _. works_fire c.args.self.now c.fire.new.self _ (sym c.may_fire.ensures.value ∙ c.if-may_fire.true) c.in-Ok.ensures.fired
+
+pub returns-then-mail_waits-clause-works : goal.returns-then-mail_waits-clause-works
+returns-then-mail_waits-clause-works g c = λ _. works_mail c.args.self.now c.run_mail.new.self _ _ (sym c.may_fire.ensures.value ∙ c.if-may_fire.false) (sym c.mail_waits.ensures.value ∙ c.if-mail_waits.true) c.in_ok-run_mail.ensures.ran
+
+pub returns-clause-works : goal.returns-clause-works
+returns-clause-works g c = works_marker c.args.self.now c.send_marker.new.self _ _ (sym c.may_fire.ensures.value ∙ c.if-may_fire.false) (sym c.mail_waits.ensures.value ∙ c.if-mail_waits.false) c.send_marker.result c.send_marker.ensures.sent
+
+pub returns-clause-no_work : goal.returns-clause-no_work
+returns-clause-no_work g c = no_work c.args.self.now c.send_marker.new.self.core (sym c.may_fire.ensures.value ∙ c.if-may_fire.false) (sym c.mail_waits.ensures.value ∙ c.if-mail_waits.false) c.send_marker.result c.send_marker.ensures.core c.send_marker.ensures.none

@@ -1,10 +1,7 @@
 use Rattle.ax_task.specs.Due.{due}
 use Rattle.ax_task.specs.Running.{state_of}
-use Rattle.ax_task.proofs.Running.{way_on, no_more, nearer_worked}
+use Rattle.ax_task.proofs.Running.{no_more, nearer_worked}
 use Rattle.ax_task.proofs.task.Task.until_taken.Goals as goal
-
-pub step-requires-clause-running : goal.step-requires-clause-running
-step-requires-clause-running g c = way_on _ _ _ _ c.requires.running c.round.invariant.runs
 
 pub returns-then-self-clause-goes : goal.returns-then-self-clause-goes
 returns-then-self-clause-goes g c = λ s p from x. c.in-Went.ensures.goes s p from (c.round.invariant.runs s p from x)
@@ -15,6 +12,7 @@ round-preserved g c = record {
   due = no_more (due c.step.new.self.driver.reading c.step.new.self.lines) (due c.round.self.driver.reading c.round.self.lines) (due c.args.self.now.driver.reading c.args.self.now.lines)
       (nearer_worked c.step.new.self.took (state_of c.round.self) (state_of c.step.new.self) c.if-self.false c.in-Went.ensures.nearer).1 c.round.invariant.due;
   going = c.in-Went.ensures.ended;
+  steady = c.in-Went.ensures.steady;
 }
 
 pub returns-in-End-clause-goes : goal.returns-in-End-clause-goes

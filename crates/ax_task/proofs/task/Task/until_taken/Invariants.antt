@@ -4,7 +4,7 @@ use Rattle.ax_lang.specs.declared.program.Program.{Program}
 use Rattle.ax_task.specs.Tasks.{From}
 use Rattle.ax_task.specs.Due.{due}
 use Rattle.ax_task.specs.Exchanged.{left}
-use Rattle.ax_task.specs.Running.{state_of, has_ended, IsRunning}
+use Rattle.ax_task.specs.Running.{state_of, has_ended, IsSteady, IsRunning}
 use Rattle.ax_task.proofs.task.Task.until_taken.Given as goal
 
 abbrev pub invariant-round : goal.invariant-round
@@ -14,6 +14,7 @@ invariant-round g l = record {
       → IsRunning s p from (state_of l.self) (record { left = g.S.Source.left l.input; reads = g.S.Source.faults l.input; holds = g.K.Sink.holds l.out; writes = g.K.Sink.counts l.out });
   due : due l.self.driver.reading l.self.lines ≤ due l.fn.self.driver.reading l.fn.self.lines;
   going : has_ended l.self ≡ false;
+  steady : IsSteady l.self;
 }
 
 abbrev pub decreases-round : goal.decreases-round
