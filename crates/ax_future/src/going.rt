@@ -121,6 +121,17 @@ impl Going {
         empty(alloc, &mut self.said.timer_ops);
     }
 
+    /// Forgets the local names, and takes the room of so many at once.
+    pub fn make_room(&mut self, names: usize) -> Result<(), NoMemory>
+        ensures { self.new.names.items ≡ [] }
+    {
+        self.names.clear();
+        match self.names.reserve_exact(names) {
+            Ok(()) => Ok(()),
+            Err(_) => Err(NoMemory),
+        }
+    }
+
     /// A handler begins: nothing is worked out or said yet. The answer is the memory of a cursor that has ended.
     #[tactic(auto, using(crate::proofs::TalkLemmas::no_names))]
     pub fn renew(&mut self, alloc: Global) -> Cursor
