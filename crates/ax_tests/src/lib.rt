@@ -4,10 +4,6 @@
 #[cfg(test)]
 mod by_key;
 #[cfg(test)]
-mod drawn;
-#[cfg(test)]
-mod draws;
-#[cfg(test)]
 mod events;
 #[cfg(test)]
 mod expect;
@@ -21,12 +17,8 @@ mod language;
 #[cfg(test)]
 mod limits;
 #[cfg(test)]
-mod orders;
-#[cfg(test)]
 mod outside;
 #[cfg(test)]
 mod programs;
 #[cfg(test)]
 mod timers;
-#[cfg(test)]
-mod ways;
