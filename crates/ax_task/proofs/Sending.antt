@@ -1,5 +1,5 @@
 -- Batches that are sent and come back, as the engine does it.
-use Rattle.std.proofs.Common.{◌≡◌, ◌≢◌, ◌<◌, ◌≤◌, ◌⊎◌, inl, inr, ℕ, zero, suc, ◌+◌, Bool, true, false, List, [], ◌∷◌, ◌++◌, length, set, take, Result, Ok, Err, IfOk, refl, sym, ap, ◌∙◌, subst, arith}
+use Rattle.std.proofs.Common.{◌≡◌, ◌≢◌, ◌<◌, ◌≤◌, ◌⊎◌, inl, inr, ℕ, zero, suc, ◌+◌, Bool, true, false, List, [], ◌∷◌, ◌++◌, length, set, take, Result, Ok, refl, sym, ap, ◌∙◌, subst, arith}
 use Rattle.std.proofs.lemmas.Bool.{cases_eq, both_ways}
 use Rattle.ax_base.specs.declared.outside.NoMemory.{NoMemory}
 use Rattle.ax_text.specs.declared.vocabulary.Kind.{Kind}
@@ -24,7 +24,7 @@ use Rattle.ax_task.specs.Shards.{Serving, shard_count, held, out, next_out, IsNe
 use Rattle.ax_task.specs.Refined.{content_over, Refines}
 use Rattle.ax_task.specs.Work.{left_to_do}
 use Rattle.ax_task.specs.Engines.{Stands, IsReady, MovesOn, batch_of}
-use Rattle.ax_task.specs.Exchanged.{IsHomeWith, LessIsLeft, NothingWaits, NoneHomeWith, IsSent, IsBack, Exchanges, SendsFull, SendsShort, Serves, Nothing}
+use Rattle.ax_task.specs.Exchanged.{IsHomeWith, LessIsLeft, NothingWaits, NoneHomeWith, NoneOut, IsSent, IsBack, Exchanges, SendsFull, SendsShort, Serves, Nothing}
 use Rattle.ax_task.specs.declared.engine.Engine.{Engine}
 use Rattle.ax_task.proofs.Exchanges.{sent_on, sent_falls, is_batch_out, came_on, came_falls}
 
@@ -126,14 +126,10 @@ pub came_ok : (n : ℕ) (o o' : ℕ → List Item) (h h' : ℕ → Content) (sha
 came_ok n o o' h h' shard r rs e came = subst (Came n o o' h h' shard) e came
 
 -- where nothing is out, and for no shard a request waits
-pub nothing : (old new : Engine) (r : Result Bool NoMemory) → ((s : ℕ) → s < old.settings.shards → IsHomeWith old 1 s → ⊥) → new.settings ≡ old.settings
-    → IfOk r (λ done. done ≡ false → new.core ≡ old.core) → IfOk r (λ done. done ≡ false → Stays (out old.shards) (out new.shards) (held old.shards) (held new.shards))
-    → IfOk r (λ done. done ≡ false → (s : ℕ) → out new.shards s ≡ []) → IfOk r (λ done. done ≡ false → NothingWaits new)
-nothing old new (Err e) none settings core stays home = tt
-nothing old new (Ok done) none settings core stays home = λ h. record {
-  queues = λ s l. ap (λ (a : Controller). queue_of a.buffer s) (core h)
-      ∙ empty (queue_of old.core.buffer s) (λ w. none s (subst (λ (t : Settings). s < t.shards) settings l) (record { home = sym ((stays h).out s) ∙ home h s; waits = w }));
-  home = home h;
+pub nothing : (e : Engine) → NoneOut e → NoneHomeWith e 1 → NothingWaits e
+nothing e home none = record {
+  queues = λ s l. empty (queue_of e.core.buffer s) (λ w. none s l (record { home = home s; waits = w }));
+  home = home;
 }
   where
     empty : (is : List Item) → (1 ≤ length is → ⊥) → is ≡ []
@@ -162,16 +158,21 @@ back_next e e' n shard rs came next posts = subst (IsBack e e') next.shard (reco
   replies = subst (λ (ys : List Reply). Posts e.core e'.core (replies_in e.core ys)) came.served.replies posts;
 })
 
--- nothing can be sent: the next batch is served, or there is nothing to do
-pub served_last : (old new : Engine) (r : Result Bool NoMemory) → NoneHomeWith old 1 → IfOk r (λ done. done ≡ true → IsBack old new (next_out old.shards)) → IfOk r (λ done. done ≡ false → new ≡ old)
-    → IfOk r (λ done. done ≡ false → NothingWaits new) → IfOk r (λ done. Exchanges old new done)
-served_last old new (Err e) none back still waits = tt
-served_last old new (Ok true) none back still waits = record { thing = Serves (next_out old.shards); comes = (none, refl); leads = back refl; told = refl }
-served_last old new (Ok false) none back still waits = record { thing = Nothing; comes = subst NothingWaits (still refl) (waits refl); leads = still refl; told = refl }
+-- no full batch can be sent: the next is served
+pub serves : (old new : Engine) → NoneHomeWith old (batch_of old) → IsBack old new (next_out old.shards) → Exchanges old new true
+serves old new none back = record { thing = Serves (next_out old.shards); comes = (none, back.was_out, refl); leads = back; told = refl }
+
+-- there is nothing to do
+pub nothing_comes : (e : Engine) → NothingWaits e → Exchanges e e false
+nothing_comes e h = record { thing = Nothing; comes = h; leads = refl; told = refl }
+
+-- what a call did that began where the one before it had left all as it was
+pub as_before : {A : Type 0} {old mid : Engine} (P : Engine → A → Type 0) (a : A) → mid ≡ old → P mid a → P old a
+as_before P a e h = subst (λ v. P v a) e h
 
 -- a batch was sent
 pub sends_full : (old new : Engine) (shard : ℕ) → shard < old.settings.shards → IsHomeWith old (batch_of old) shard → ((t : ℕ) → t < shard → IsHomeWith old (batch_of old) t → ⊥) → IsSent old new shard → Exchanges old new true
 sends_full old new shard among is first sent = record { thing = SendsFull shard; comes = record { among = among; is = is; first = first }; leads = sent; told = refl }
 
-pub sends_short : (old new : Engine) (shard : ℕ) → NoneHomeWith old (batch_of old) → shard < old.settings.shards → IsHomeWith old 1 shard → ((t : ℕ) → t < shard → IsHomeWith old 1 t → ⊥) → IsSent old new shard → Exchanges old new true
-sends_short old new shard none among is first sent = record { thing = SendsShort shard; comes = (none, record { among = among; is = is; first = first }); leads = sent; told = refl }
+pub sends_short : (old new : Engine) (shard : ℕ) → NoneHomeWith old (batch_of old) → NoneOut old → shard < old.settings.shards → IsHomeWith old 1 shard → ((t : ℕ) → t < shard → IsHomeWith old 1 t → ⊥) → IsSent old new shard → Exchanges old new true
+sends_short old new shard none home among is first sent = record { thing = SendsShort shard; comes = (none, home, record { among = among; is = is; first = first }); leads = sent; told = refl }

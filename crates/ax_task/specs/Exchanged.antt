@@ -57,22 +57,26 @@ pub record IsBack (old new : Engine) (shard : ℕ) : Type 0 where
   pub home : (s : ℕ) → out new.shards s ≡ upd (out old.shards) shard [] s
   pub replies : Posts old.core new.core (replies_in old.core (replies_to (out old.shards shard) (held old.shards shard)))
 
+-- no shard is out
+abbrev pub NoneOut : Engine → Type 0
+NoneOut e = (s : ℕ) → out e.shards s ≡ []
+
 -- what is done with requests
 pub data Thing : Type 0 where
   -- a full batch goes to a shard
   SendsFull : (shard : ℕ) → Thing
-  -- a batch that isn't full goes to a shard
-  SendsShort : (shard : ℕ) → Thing
   -- the batch of a shard is served
   Serves : (shard : ℕ) → Thing
+  -- a batch that isn't full goes to a shard
+  SendsShort : (shard : ℕ) → Thing
   Nothing : Thing
 
--- which of them comes: a full batch before one that isn't, each to the first shard that is home; and only where none can be sent a batch is
--- served
+-- which of them comes: a full batch goes first, to the first shard that is home; where there is none, a batch is served; and only where
+-- nothing is out one goes that isn't full
 abbrev pub Comes : Engine → Thing → Type 0
 Comes e (SendsFull shard) = IsFirstHomeWith e (batch_of e) shard
-Comes e (SendsShort shard) = NoneHomeWith e (batch_of e) × IsFirstHomeWith e 1 shard
-Comes e (Serves shard) = NoneHomeWith e 1 × (shard ≡ next_out e.shards)
+Comes e (Serves shard) = NoneHomeWith e (batch_of e) × (out e.shards shard ≢ []) × (shard ≡ next_out e.shards)
+Comes e (SendsShort shard) = NoneHomeWith e (batch_of e) × NoneOut e × IsFirstHomeWith e 1 shard
 Comes e Nothing = NothingWaits e
 
 -- what it leaves

@@ -3,7 +3,7 @@ ghost use Rattle.std.specs.Prelude.{◌≡◌, ◌<◌, ◌↔◌, ℕ, [], leng
 ghost use Rattle.ax_buffer.specs.Buffer.{queue_of};
 ghost use Rattle.ax_task.specs.Shards.{held, out, next_out, Stays};
 ghost use Rattle.ax_task.specs.Engines.{IsReady, MovesOn, batch_of};
-ghost use Rattle.ax_task.specs.Exchanged.{IsHomeWith, LessIsLeft, NothingWaits, IsSent, IsBack, Exchanges};
+ghost use Rattle.ax_task.specs.Exchanged.{IsHomeWith, LessIsLeft, NothingWaits, NoneHomeWith, NoneOut, IsSent, IsBack, Exchanges};
 
 use crate::engine::Engine;
 use ax_base::NoMemory;
@@ -22,7 +22,7 @@ impl Engine {
     fn home_with(&self, least: u32) -> Option<u16>
         requires ready { IsReady self.now }
         ensures some { IfSome result (λ s. IsHomeWith self.now least s) }
-        ensures none { IfNone result ((s : ℕ) → s < self.now.settings.shards → IsHomeWith self.now least s → ⊥) }
+        ensures none { IfNone result (NoneHomeWith self.now least) }
         ensures below { IfSome result (λ s. s < self.now.settings.shards) }
         ensures first { IfSome result (λ s. (t : ℕ) → t < s → IsHomeWith self.now least t → ⊥) }
     {
@@ -70,14 +70,35 @@ impl Engine {
         Ok(true)
     }
 
-    /// Sends a full batch to the first shard that is home and for which so many requests wait. Where there is none, sends all
-    /// that wait for the first shard that is home and for which some wait. Where there is none either, serves the batch that
-    /// the list of numbers tells, as `Shards::poll` says. Whether there was something to do; where not, nothing has changed.
+    // Sends all that wait for the first shard for which some wait. Whether there was one. Conditions: nothing is out, and for no
+    // shard as many wait as go at once.
+    fn send_short(&mut self) -> Result<bool, NoMemory>
+        requires ready { IsReady self.old }
+        requires none { NoneHomeWith self.old (batch_of self.old) }
+        requires home { NoneOut self.old }
+        ensures moves { OnOk result (MovesOn self.old self.new) }
+        ensures falls { IfOk result (λ done. done ≡ true → LessIsLeft self.old self.new) }
+        ensures still { IfOk result (λ done. done ≡ false → self.new ≡ self.old) }
+        ensures nothing { IfOk result (λ done. done ≡ false → NothingWaits self.new) }
+        ensures exchanges { IfOk result (λ done. Exchanges self.old self.new done) }
+        ensures batch { batch_of self.new ≡ batch_of self.old }
+    {
+        let Some(shard) = self.home_with(1) else {
+            return Ok(false);
+        };
+        self.send(shard)?;
+        Ok(true)
+    }
+
+    /// Sends a full batch to the first shard that is home and for which so many requests wait. Where there is none, serves the
+    /// batch that the list of numbers tells, as `Shards::poll` says. Where none is out either, sends all that wait for the first
+    /// shard for which some wait. Whether there was something to do; where not, nothing has changed.
     pub fn exchange(&mut self) -> Result<bool, NoMemory>
         requires ready { IsReady self.old }
         ensures moves { OnOk result (MovesOn self.old self.new) }
         ensures falls { IfOk result (λ done. done ≡ true → LessIsLeft self.old self.new) }
         ensures idle { IfOk result (λ done. done ≡ false → self.new.core ≡ self.old.core) }
+        ensures still { IfOk result (λ done. done ≡ false → self.new ≡ self.old) }
         ensures nothing { IfOk result (λ done. done ≡ false → NothingWaits self.new) }
         ensures exchanges { IfOk result (λ done. Exchanges self.old self.new done) }
         ensures batch { batch_of self.new ≡ batch_of self.old }
@@ -86,10 +107,9 @@ impl Engine {
             self.send(shard)?;
             return Ok(true);
         }
-        if let Some(shard) = self.home_with(1) {
-            self.send(shard)?;
+        if self.poll()? {
             return Ok(true);
         }
-        self.poll()
+        self.send_short()
     }
 }
