@@ -2,16 +2,12 @@
 #![tactic(auto)]
 
 #[cfg(test)]
-mod by_key;
-#[cfg(test)]
 mod events;
 #[cfg(test)]
 mod expect;
 #[cfg(test)]
 mod failing;
-#[cfg(test)]
-mod faulty;
-pub mod inputs;
+pub mod faulty;
 #[cfg(test)]
 mod language;
 #[cfg(test)]

@@ -1,9 +1,9 @@
 //! Words, and sources and sinks that fail or take little at a time.
-use crate::by_key::by_key;
 use crate::expect::{COUNTER, WORDS, joined, line_of, program};
 use crate::faulty::{FaultySink, FaultySource};
 use ax_base::{SinkFault, SureSink, SureSource};
 use ax_cli::{Status, run_alone};
+use ax_task_tests::by_key::by_key;
 use std::alloc::AllocGlobal;
 use std::process::Abort;
 use std::test::Fail;
