@@ -1,16 +1,18 @@
 -- The entries of the keys.
-use Rattle.std.proofs.Common.{◌≡◌, ◌∙◌, ℕ, ◌+◌, Bool, true, false, not, cond, List, [], ◌∷◌, ◌++◌, Option, Some, None, refl, sym, ap, ap₂, subst, arith, get_or}
-use Rattle.std.specs.Prelude.{All, IsSome, unwrap_or, sum_by, Result, Ok, Err, OnOk, OnErr}
-use Rattle.std.proofs.lemmas.Map.Steps.{set_value_same}
+use Rattle.std.proofs.Common.{◌≡◌, ◌∙◌, ℕ, ◌+◌, Bool, true, false, not, cond, List, [], ◌∷◌, ◌++◌, Option, Some, None, refl, sym, ap, subst, arith, get_or}
+use Rattle.std.specs.Prelude.{All, IsSome, unwrap_or, sum_by, Result, Ok, Err, IfOk, OnOk, OnErr}
 use Rattle.std.specs.Option.{option_map, is_some}
 use Rattle.std.specs.Cmp.Lexicographic.{nat_list_cmp_total}
 use Rattle.std.specs.List.Sorted.{IsStrictlySortedBy}
 use Rattle.std.specs.Map.{lookup, values_of, keys_of, remove_entry, set_value}
 use Rattle.std.specs.BTreeMap.{insert_entry}
-use Rattle.std.proofs.lemmas.Map.Entries.{sum_by-remove_entry, sum_by-set_value, sum_by-insert_entry}
+use Rattle.std.proofs.Common.{Ordering, Less, Equal, Greater}
+use Rattle.std.specs.Ordering.{is_eq, match_ordering}
+use Rattle.std.proofs.lemmas.Map.{lookup-none}
+use Rattle.std.proofs.lemmas.Map.Entries.{none_below_head, sum_by-remove_entry, sum_by-set_value, sum_by-insert_entry}
 use Rattle.std.proofs.lemmas.Bool.{false≢true, false_from_ne_true, not-true, cond-true, cond-false}
 use Rattle.std.proofs.lemmas.List.Elements.{All-push, All-filter, filter_passes}
-use Rattle.std.proofs.lemmas.Map.Keys.{IsDistinct-push}
+use Rattle.std.proofs.lemmas.Map.Keys.{IsDistinct-push, sorted_tail}
 use Rattle.std.proofs.lemmas.Map.Made.{is_some-lookup}
 use Rattle.std.proofs.lemmas.List.Folds.{list_any_none}
 use Rattle.ax_context.specs.declared.id.Id.{Id}
@@ -20,7 +22,7 @@ use Rattle.ax_account.specs.declared.part.Next.TheVariants.{Free}
 use Rattle.ax_account.specs.Parts.{Part, free, is_free, kept, waits, owned, next_of, taken_up, may_idle}
 use Rattle.ax_keys.specs.Keys.{key_cmp}
 use Rattle.ax_account.specs.Queues.{same_key, has_key, without, AreDistinct}
-use Rattle.ax_account.specs.Accounts.{Parts, Accounts, Sets, Changes, AreSound, occupied}
+use Rattle.ax_account.specs.Accounts.{Parts, Sets, Changes, AreSound, occupied}
 use Rattle.ax_account.proofs.QueueLemmas.{key_is, key_laws, IsDistinct-without}
 
 module _ (es fs : Parts) (key : List ℕ) where
@@ -35,13 +37,13 @@ module _ (es fs : Parts) (key : List ℕ) where
         ap (λ (xs : Parts). sum_by f (values_of xs) + unwrap_or (option_map f (lookup (same_key key) es)) 0) is ∙ ap (λ n. sum_by f (values_of (set_value (same_key key) es w)) + n) share ∙ sums;
   }
 
-  pub sets_put : (w : Part) → lookup (same_key key) es ≡ None → fs ≡ insert_entry key_cmp es key w
-      → ((q : List ℕ) → lookup (same_key q) fs ≡ cond (same_key key q) (Some w) (lookup (same_key q) es)) → IsStrictlySortedBy key_cmp (keys_of es) → IsStrictlySortedBy key_cmp (keys_of fs) → Sets es fs key (Some w)
-  sets_put w absent is at was_rising rising = record {
+  pub sets_put : (copied : List ℕ) (w : Part) → copied ≡ key → fs ≡ insert_entry key_cmp es copied w
+      → ((q : List ℕ) → lookup (same_key q) fs ≡ cond (same_key copied q) (Some w) (lookup (same_key q) es)) → IsStrictlySortedBy key_cmp (keys_of es) → IsStrictlySortedBy key_cmp (keys_of fs) → Sets es fs key (Some w)
+  sets_put copied w same is at was_rising rising = subst (λ (k : List ℕ). Sets es fs k (Some w)) same (record {
     at = at;
     rising = rising;
-    totals = λ f. ap (λ (xs : Parts). sum_by f (values_of xs) + unwrap_or (option_map f (lookup (same_key key) es)) 0) is ∙ sum_by-insert_entry f nat_list_cmp_total es key w was_rising;
-  }
+    totals = λ f. ap (λ (xs : Parts). sum_by f (values_of xs) + unwrap_or (option_map f (lookup (same_key copied) es)) 0) is ∙ sum_by-insert_entry f nat_list_cmp_total es copied w was_rising;
+  })
 
   pub sets_removed : fs ≡ remove_entry (same_key key) es
       → ((q : List ℕ) → lookup (same_key q) fs ≡ cond (same_key key q) None (lookup (same_key q) es)) → IsStrictlySortedBy key_cmp (keys_of fs) → Sets es fs key None
@@ -64,15 +66,23 @@ sets_nothing es fs key is absent rising = subst (λ (xs : Parts). Sets es xs key
     go q true e = subst (λ x. lookup (same_key x) es ≡ None) (key_is key q e) absent
     go q false e = refl
 
+-- what a look-up found, put in again, changes nothing
+pub put_same : (es : Parts) (key : List ℕ) (v : Part) → IsStrictlySortedBy key_cmp (keys_of es) → lookup (same_key key) es ≡ Some v → insert_entry key_cmp es key v ≡ es
+put_same [] key v rising found = absurd (false≢true (ap is_some found))
+put_same (e ∷ es) key v rising found = go (key_cmp key e.0) refl found (put_same es key v (sorted_tail key_cmp e.0 (keys_of es) rising))
+  where
+    go : (r : Ordering) → key_cmp key e.0 ≡ r → cond (is_eq r) (Some e.1) (lookup (same_key key) es) ≡ Some v → (lookup (same_key key) es ≡ Some v → insert_entry key_cmp es key v ≡ es)
+        → match_ordering r ((key, v) ∷ e ∷ es) ((e.0, v) ∷ es) (e ∷ insert_entry key_cmp es key v) ≡ e ∷ es
+    go Less below at later = absurd (false≢true (ap is_some (sym (lookup-none (same_key key) es (none_below_head nat_list_cmp_total key e es rising below).1) ∙ at)))
+    go Equal same at later = ap (λ o. (e.0, unwrap_or o v) ∷ es) (sym at)
+    go Greater above at later = ap (λ (xs : Parts). e ∷ xs) (later at)
+
 module _ (es fs : Parts) (key : List ℕ) (g : Part → Part) (v w : Part) (found : Some v ≡ lookup (same_key key) es) where
   pub sets_mapped : w ≡ g v → fs ≡ set_value (same_key key) es w
       → ((q : List ℕ) → lookup (same_key q) fs ≡ cond (same_key key q) (Some w) (lookup (same_key q) es)) → IsStrictlySortedBy key_cmp (keys_of fs)
       → Sets es fs key (option_map g (lookup (same_key key) es))
   sets_mapped new is at rising =
       subst (λ o. Sets es fs key (option_map g o)) found (subst (λ x. Sets es fs key (Some x)) new (sets_written es fs key v w found is at rising))
-
-pub written_same : (es fs : Parts) (key : List ℕ) (v w : Part) → Some v ≡ lookup (same_key key) es → w ≡ v → fs ≡ set_value (same_key key) es w → fs ≡ es
-written_same es fs key v w found same is = is ∙ set_value_same (same_key key) es w (sym found ∙ ap Some (sym same))
 
 pub on_ok : {A E P Q : Type 0} (r : Result A E) → OnOk r P → (P → Q) → OnOk r Q
 on_ok (Ok x) p f = f p
@@ -81,6 +91,22 @@ on_ok (Err e) p f = tt
 pub on_err : {A E P Q : Type 0} (r : Result A E) → OnErr r P → (P → Q) → OnErr r Q
 on_err (Ok x) p f = tt
 on_err (Err e) p f = f p
+
+pub if_ok : {A E : Type 0} {P Q : A → Type 0} (r : Result A E) → IfOk r P → ((x : A) → P x → Q x) → IfOk r Q
+if_ok (Ok x) p f = f x p
+if_ok (Err e) p f = tt
+
+pub to_err : {A E P : Type 0} (r : Result A E) → P → OnErr r P
+to_err (Ok x) p = tt
+to_err (Err e) p = p
+
+pub either_way : {A E P Q G : Type 0} (r : Result A E) → OnOk r P → OnErr r Q → (P → G) → (Q → G) → G
+either_way (Ok x) p q f g = f p
+either_way (Err e) p q f g = g q
+
+pub either_way₂ : {A E P P' Q Q' G : Type 0} (r : Result A E) → OnOk r P → OnOk r P' → OnErr r Q → OnErr r Q' → (P → P' → G) → (Q → Q' → G) → G
+either_way₂ (Ok x) p p' q q' f g = f p p'
+either_way₂ (Err e) p p' q q' f g = g q q'
 
 -- ---- a part that is kept
 free_is : (p : Part) → is_free p ≡ true → p ≡ free
@@ -220,16 +246,27 @@ module _ (es fs : Parts) (idle idle' : List (List ℕ)) (key : List ℕ) (p : Pa
         (All-push (λ q. may_idle (unwrap_or (lookup (same_key q) fs) free) ≡ true) idle key (idle_kept idle sound.idle (λ was. idles)) (ap may_idle changed_own ∙ idles)) is
 
 -- ---- what a look-up says of a part
-pub waited_kept : (item : Waiting) (o : Option Part) → is_some o ≡ true → option_map (waits item) o ≡ kept (waits item (unwrap_or o free))
-waited_kept item None e = absurd (false≢true e)
-waited_kept item (Some p) e = sym (kept_some (waits item p) (waits_kept item p))
-
-pub not_there : (o : Option Part) → is_some o ≡ false → o ≡ None
+not_there : (o : Option Part) → is_some o ≡ false → o ≡ None
 not_there None e = refl
 not_there (Some p) e = absurd (false≢true (sym e))
 
-pub part_free : (o : Option Part) → is_some o ≡ false → unwrap_or o free ≡ free
+part_free : (o : Option Part) → is_some o ≡ false → unwrap_or o free ≡ free
 part_free o e = ap (λ x. unwrap_or x free) (not_there o e)
+
+pub kept_waits : (item : Waiting) (p : Part) → Some (waits item p) ≡ kept (waits item p)
+kept_waits item p = sym (kept_some (waits item p) (waits_kept item p))
+
+kept_occupied : (id : Id) (o : Option Part) → not (is_some o) ≡ is_free (unwrap_or o free) → Some (unwrap_or (option_map (waits (Row id)) o) (owned id)) ≡ kept (occupied id (unwrap_or o free))
+kept_occupied id None e = refl
+kept_occupied id (Some p) e = kept_waits (Row id) p ∙ ap kept (sym (cond-false (is_free p) (owned id) (waits (Row id) p) (sym e)))
+
+choose_not : {A : Type 0} (b : Bool) (x y : A) → cond b x y ≡ cond (not b) y x
+choose_not true x y = refl
+choose_not false x y = refl
+
+twice_not : (b : Bool) → not (not b) ≡ b
+twice_not true = refl
+twice_not false = refl
 
 pub may_idle_waits : (item : Waiting) (p : Part) → may_idle p ≡ true → may_idle (waits item p) ≡ true
 may_idle_waits item p e = go p.owner p.waiting e
@@ -248,8 +285,14 @@ owned_not_idle p q some e = go p.owner some e
     go (Some id) some e = absurd (false≢true e)
 
 module _ (es : Parts) (idle : List (List ℕ)) (sound : AreSound (record { parts = es; idle = idle })) (key : List ℕ) where
-  pub not_free : is_some (lookup (same_key key) es) ≡ true → is_free (unwrap_or (lookup (same_key key) es) free) ≡ false
-  not_free there = not-true (is_free (unwrap_or (lookup (same_key key) es) free)) (sym (sound.busy key) ∙ sym (is_some-lookup (same_key key) es) ∙ there)
+  pub free_where_absent : not (is_some (lookup (same_key key) es)) ≡ is_free (unwrap_or (lookup (same_key key) es) free)
+  free_where_absent = ap not (is_some-lookup (same_key key) es ∙ sound.busy key) ∙ twice_not (is_free (unwrap_or (lookup (same_key key) es) free))
+
+  pub chosen_by : {A : Type 0} (x y : A) → cond (is_some (lookup (same_key key) es)) x y ≡ cond (is_free (unwrap_or (lookup (same_key key) es) free)) y x
+  chosen_by x y = choose_not (is_some (lookup (same_key key) es)) x y ∙ ap (λ b. cond b y x) free_where_absent
+
+  pub kept_if_occupied : (id : Id) → Some (unwrap_or (option_map (waits (Row id)) (lookup (same_key key) es)) (owned id)) ≡ kept (occupied id (unwrap_or (lookup (same_key key) es) free))
+  kept_if_occupied id = kept_occupied id (lookup (same_key key) es) free_where_absent
 
   pub not_idle : is_some (lookup (same_key key) es) ≡ false → has_key idle key ≡ false
   not_idle absent = list_any_none (same_key key) idle (λ i d in'.
@@ -269,26 +312,16 @@ idle_occupied id p e = go p.owner p.waiting e
     go None (Mark epoch time fired ∷ items) e = refl
     go (Some other) items e = absurd (false≢true e)
 
-module _ (es fs : Parts) (key : List ℕ) where
-  pub sets_waits : (item : Waiting) → is_some (lookup (same_key key) es) ≡ true → Sets es fs key (option_map (waits item) (lookup (same_key key) es))
-      → Sets es fs key (kept (waits item (unwrap_or (lookup (same_key key) es) free)))
-  sets_waits item there sets = subst (λ o. Sets es fs key o) (waited_kept item (lookup (same_key key) es) there) sets
+pub sound_waited : (es fs : Parts) (idle idle' : List (List ℕ)) (key : List ℕ) (item : Waiting) → AreSound (record { parts = es; idle = idle }) → may_idle (waits item free) ≡ true
+    → Sets es fs key (kept (waits item (unwrap_or (lookup (same_key key) es) free))) → idle' ≡ cond (is_some (lookup (same_key key) es)) idle (idle ++ key ∷ []) → AreSound (record { parts = fs; idle = idle' })
+sound_waited es fs idle idle' key item sound idles sets is = go (is_some (lookup (same_key key) es)) refl is
+  where
+    part : Part
+    part = unwrap_or (lookup (same_key key) es) free
 
-  pub sets_occupied : (id : Id) → is_some (lookup (same_key key) es) ≡ true → is_free (unwrap_or (lookup (same_key key) es) free) ≡ false
-      → Sets es fs key (option_map (waits (Row id)) (lookup (same_key key) es)) → Sets es fs key (kept (occupied id (unwrap_or (lookup (same_key key) es) free)))
-  sets_occupied id there taken sets =
-      subst (λ (p : Part). Sets es fs key (kept p)) (sym (cond-false (is_free (unwrap_or (lookup (same_key key) es) free)) (owned id) (waits (Row id) (unwrap_or (lookup (same_key key) es) free)) taken)) (sets_waits (Row id) there sets)
-
-  pub sets_owned : (id : Id) (entry : Part) → entry ≡ owned id → is_some (lookup (same_key key) es) ≡ false → Sets es fs key (Some entry)
-      → Sets es fs key (kept (occupied id (unwrap_or (lookup (same_key key) es) free)))
-  sets_owned id entry is absent sets = subst (λ (p : Part). Sets es fs key (kept (occupied id p))) (sym (part_free (lookup (same_key key) es) absent)) (subst (λ (p : Part). Sets es fs key (Some p)) is sets)
-
-  pub sets_first : (item : Waiting) (entry : Part) → entry ≡ waits item free → is_some (lookup (same_key key) es) ≡ false → Sets es fs key (Some entry)
-      → Sets es fs key (kept (waits item (unwrap_or (lookup (same_key key) es) free)))
-  sets_first item entry is absent sets = subst (λ (p : Part). Sets es fs key (kept (waits item p))) (sym (part_free (lookup (same_key key) es) absent)) (subst (λ (p : Part). Sets es fs key (Some p)) is sets)
+    go : (b : Bool) → is_some (lookup (same_key key) es) ≡ b → idle' ≡ cond b idle (idle ++ key ∷ []) → AreSound (record { parts = fs; idle = idle' })
+    go true there same = sound_same es fs idle idle' key (waits item part) sets sound (may_idle_waits item part) same
+    go false absent pushed = sound_pushed es fs idle idle' key (waits item part) sets sound (not_idle es idle sound key absent) (ap (λ (p : Part). may_idle (waits item p)) (part_free (lookup (same_key key) es) absent) ∙ idles) pushed
 
 pub sound_undone : (es fs : Parts) (idle idle' : List (List ℕ)) → AreSound (record { parts = es; idle = idle }) → fs ≡ es → idle' ≡ idle → AreSound (record { parts = fs; idle = idle' })
 sound_undone es fs idle idle' sound e f = subst (λ (x : Parts). AreSound (record { parts = x; idle = idle' })) (sym e) (subst (λ (x : List (List ℕ)). AreSound (record { parts = es; idle = x })) (sym f) sound)
-
-pub same_accounts : (es fs : Parts) (idle idle' : List (List ℕ)) → fs ≡ es → idle' ≡ idle → ◌≡◌ {A = Accounts} (record { parts = fs; idle = idle' }) (record { parts = es; idle = idle })
-same_accounts es fs idle idle' e f = ap₂ (λ (x : Parts) (y : List (List ℕ)). let accounts : Accounts = record { parts = x; idle = y } in accounts) e f

@@ -294,10 +294,3 @@ module _ (keys : List (ℕ × List ℕ)) (numbers : List (List ℕ × ℕ)) (nex
       let same : length (values_of keys) ≡ length keys = length-values_of keys in
       let whole : length (values_of keys) ≡ length (fresh ++ key ∷ rest') = ap length (is ∙ sym so_far ∙ ap (λ r. fresh ++ r) step) in
       omega (arith, length-append fresh (key ∷ rest'))
-
-pub without_pushed : (key : List ℕ) (ks : List (List ℕ)) → has_key ks key ≡ false → without key (ks ++ key ∷ []) ≡ ks
-without_pushed key [] e = cond-false (not (same_key key key)) (key ∷ []) [] (ap not (key_laws.refl key))
-without_pushed key (k ∷ ks) e =
-    let parts = or_parts (same_key key k) (has_key ks key) e in
-    cond-true (not (same_key key k)) (k ∷ without key (ks ++ key ∷ [])) (without key (ks ++ key ∷ [])) (ap not parts.0)
-    ∙ ap (λ r. k ∷ r) (without_pushed key ks parts.1)

@@ -1,9 +1,11 @@
 //! The accounts of all keys.
-ghost use Rattle.std.specs.Prelude.{◌≡◌, [], Some, None, true, IsSome, IfOk, OnOk, OnErr};
+ghost use Rattle.std.specs.Prelude.{◌≡◌, ◌++◌, [], ◌∷◌, Some, None, true, false, is_some, if◌then◌else◌, IsSome, IfOk, OnOk, OnErr};
 ghost use Rattle.std.specs.Option.{option_copied, option_map, unwrap_or};
 ghost use Rattle.std.specs.Map.{lookup};
-ghost use Rattle.ax_account.specs.Parts.{free, next_of, taken_up, waits, fired_by, may_fire, is_mark, mark_ended, kept};
-ghost use Rattle.ax_account.specs.Queues.{without, first_of, same_key};
+ghost use Rattle.ax_account.specs.declared.part.Occupied.TheVariants.{Owner, Waits};
+ghost use Rattle.ax_account.specs.declared.part.Waiting.TheVariants.{Row};
+ghost use Rattle.ax_account.specs.Parts.{free, is_free, owned, next_of, taken_up, waits, fired_by, may_fire, is_mark, mark_ended, kept};
+ghost use Rattle.ax_account.specs.Queues.{has_key, without, first_of, same_key};
 ghost use Rattle.ax_account.specs.Accounts.{part_of, owner_of, waiting_of, busy_keys, Changes, AreSound, Sets, answer_to, occupied, mark, idle_with};
 
 use crate::entry::Entry;
@@ -14,6 +16,7 @@ use ax_context::Id;
 use ax_keys::{Key, Keys};
 use std::alloc::Global;
 use std::collections::BTreeMap;
+use std::collections::btree_map::Entry as Place;
 use std::marker::Model;
 
 /// Which record in flight owns each key, and what waits for it. A key that has no owner and for
@@ -47,32 +50,71 @@ fn take_out(entries: &mut BTreeMap<Key, Entry>, key: &Key)
     entries.remove(key);
 }
 
-// Puts a key in that is not there. After `NoMemory` the entries are as before.
-fn put_in(
+// A row comes for a key: it owns one that is not there, and else waits. After `NoMemory` the
+// entries are as before.
+fn occupy_at(
     alloc: Global,
     entries: &mut BTreeMap<Key, Entry>,
     key: &Key,
-    entry: Entry,
-) -> Result<(), NoMemory>
-    requires { lookup (same_key key.now) entries.old.entries ≡ None }
-    ensures ok { OnOk result (Sets entries.old.entries entries.new.entries key.now (Some entry)) }
+    id: Id,
+) -> Result<Occupied, NoMemory>
+    ensures answer { IfOk result (λ answer. answer ≡ (if is_some (lookup (same_key key.now) entries.old.entries) then Waits else Owner)) }
+    ensures ok { OnOk result (Sets entries.old.entries entries.new.entries key.now (Some (unwrap_or (option_map (waits (Row id)) (lookup (same_key key.now) entries.old.entries)) (owned id)))) }
     ensures err { OnErr result (entries.new.entries ≡ entries.old.entries) }
 {
-    let key = key.copy(alloc)?;
-    match entries.insert(key, entry) {
-        Ok(_) => Ok(()),
-        Err(_) => Err(NoMemory),
+    let Ok(place) = entries.entry(key.copy(alloc)?) else {
+        return Err(NoMemory);
+    };
+    match place {
+        Place::Vacant(place) => {
+            place.insert(Entry::owned(alloc, id));
+            Ok(Occupied::Owner)
+        }
+        Place::Occupied(place) => {
+            place.into_mut().push(Waiting::Row { id })?;
+            Ok(Occupied::Waits)
+        }
     }
 }
 
-// Lets an item wait at a key that is there. After `NoMemory` the entries are as before.
-fn wait_at(entries: &mut BTreeMap<Key, Entry>, key: &Key, item: Waiting) -> Result<(), NoMemory>
-    ensures ok { OnOk result (Sets entries.old.entries entries.new.entries key.now (option_map (waits item) (lookup (same_key key.now) entries.old.entries))) }
-    ensures err { OnErr result (entries.new.entries ≡ entries.old.entries) }
+// What is kept of a free key for which an item comes to wait, where the key goes last among the
+// idle ones. After `NoMemory` these are as before.
+fn first_at(alloc: Global, idle: &mut KeyQueue, key: &Key, item: Waiting) -> Result<Entry, NoMemory>
+    requires { has_key idle.old.keys key.now ≡ false }
+    ensures entry { IfOk result (λ entry. entry ≡ waits item free) }
+    ensures ok { OnOk result (idle.new.keys ≡ idle.old.keys ++ key.now ∷ []) }
+    ensures err { OnErr result (idle.new.keys ≡ idle.old.keys) }
 {
-    match entries.get_mut(key) {
-        Some(entry) => entry.push(item),
-        None => Ok(()),
+    let entry = Entry::waited(alloc, item)?;
+    idle.push(key)?;
+    Ok(entry)
+}
+
+// Lets an item wait at a key. One that is not there goes last among the idle ones. After `NoMemory`
+// all is as before.
+fn wait_at(
+    alloc: Global,
+    entries: &mut BTreeMap<Key, Entry>,
+    idle: &mut KeyQueue,
+    key: &Key,
+    item: Waiting,
+) -> Result<(), NoMemory>
+    requires { lookup (same_key key.now) entries.old.entries ≡ None → has_key idle.old.keys key.now ≡ false }
+    ensures ok { OnOk result (Sets entries.old.entries entries.new.entries key.now (Some (waits item (unwrap_or (lookup (same_key key.now) entries.old.entries) free)))) }
+    ensures idle { OnOk result (idle.new.keys ≡ (if is_some (lookup (same_key key.now) entries.old.entries) then idle.old.keys else idle.old.keys ++ key.now ∷ [])) }
+    ensures err { OnErr result (entries.new.entries ≡ entries.old.entries) }
+    ensures err_idle { OnErr result (idle.new.keys ≡ idle.old.keys) }
+{
+    let Ok(place) = entries.entry(key.copy(alloc)?) else {
+        return Err(NoMemory);
+    };
+    match place {
+        Place::Vacant(place) => {
+            let first = first_at(alloc, idle, key, item);
+            Place::Vacant(place).or_try_insert_with(|| first)?;
+            Ok(())
+        }
+        Place::Occupied(place) => place.into_mut().push(item),
     }
 }
 
@@ -148,6 +190,15 @@ impl Accounting {
         }
     }
 
+    /// Whether a key is free: it has no owner, and nothing waits for it. A row that comes for it then
+    /// owns it, as `occupy` tells.
+    pub fn is_free(&self, key: &Key) -> bool
+        ensures value { result ≡ is_free (part_of self.now key.now) }
+        ensures sound { AreSound self.now }
+    {
+        !self.entries.contains_key(key)
+    }
+
     /// The owner of a key, and `None` exactly where it has none.
     pub fn owner(&self, key: &Key) -> Option<Id>
         ensures value { result ≡ owner_of self.now key.now }
@@ -187,13 +238,7 @@ impl Accounting {
         ensures idle { OnOk result (self.new.idle ≡ self.old.idle) }
         ensures err { OnErr result (self.new ≡ self.old) }
     {
-        if self.entries.contains_key(key) {
-            wait_at(&mut self.entries, key, Waiting::Row { id })?;
-            return Ok(Occupied::Waits);
-        }
-        let entry = Entry::owned(self.alloc, id);
-        put_in(self.alloc, &mut self.entries, key, entry)?;
-        Ok(Occupied::Owner)
+        occupy_at(self.alloc, &mut self.entries, key, id)
     }
 
     /// A watermark of this time that ended an epoch waits at a key, the last of all, with no firing
@@ -209,17 +254,7 @@ impl Accounting {
             time,
             fired: 0,
         };
-        if self.entries.contains_key(key) {
-            wait_at(&mut self.entries, key, item)?;
-            return Ok(());
-        }
-        let entry = Entry::waited(self.alloc, item)?;
-        self.idle.push(key)?;
-        let Ok(()) = put_in(self.alloc, &mut self.entries, key, entry) else {
-            self.idle.remove(key);
-            return Err(NoMemory);
-        };
-        Ok(())
+        wait_at(self.alloc, &mut self.entries, &mut self.idle, key, item)
     }
 
     /// Takes the owner off a key, and tells what comes next. A waiting row in front leaves the list

@@ -1,3 +1,4 @@
 pub mod Status
 pub mod FaultLine
 pub mod Program
+pub mod Laws

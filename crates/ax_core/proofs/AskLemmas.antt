@@ -24,6 +24,7 @@ held_next a b d id n h g = record {
   others = λ other differ. g.others other differ ∙ h.others other differ;
   len = g.len ∙ h.len;
   limit = g.limit ∙ h.limit;
+  next = g.next ∙ h.next;
 }
 
 live : (o : Option (Context Record)) (P : Context Record → Type 0) → IsSomeAnd o P → IsSomeAnd o (λ c. o ≡ Some (record c { count = c.count + 0 }))
@@ -33,7 +34,7 @@ live (Some c) P h =
     ap (λ (k : ℕ). Some (record c { count = k })) e
 
 pub held_none : (a : Slots Record) (id : Id) (P : Context Record → Type 0) → Has a id P → IsHeld a a id 0
-held_none a id P h = record { counted = live (at a id) P h; others = λ other differ. refl; len = refl; limit = refl }
+held_none a id P h = record { counted = live (at a id) P h; others = λ other differ. refl; len = refl; limit = refl; next = refl }
 
 -- room for so many more, behind one
 few_then : (o o' : Option (Context Record)) (n : ℕ) → IsSomeAnd o (λ c. c.count + suc n ≤ 17) → IsSomeAnd o (λ c. o' ≡ Some (record c { count = c.count + 1 })) → IsSomeAnd o' (λ c. c.count + n ≤ 17)

@@ -9,10 +9,9 @@ use Rattle.ax_machine.specs.Entries.{Key}
 use Rattle.ax_buffer.specs.Buffer.{Buffer}
 use Rattle.ax_context.specs.declared.id.Id.{Id}
 use Rattle.ax_context.specs.declared.contexts.Context.{Context as Held}
-use Rattle.ax_context.specs.declared.contexts.Released.{Released}
 use Rattle.ax_context.specs.declared.contexts.Released.TheVariants as released
-use Rattle.ax_context.specs.Released.{Answers, left, gone_count}
-use Rattle.ax_context.specs.Slots.{Slots, at, Has, live_count, OthersStay, IsPaid}
+use Rattle.ax_context.specs.Released.{Answers, left}
+use Rattle.ax_context.specs.Slots.{Slots, at, Has, IsPaid}
 use Rattle.ax_account.specs.Accounts.{waiting_of}
 use Rattle.ax_time.specs.declared.timer.Timer.{Timer}
 use Rattle.ax_time.specs.Epochs.{Book}
@@ -90,6 +89,7 @@ module _ (a : Controller) (id : Id) (t : Turn) (key : Key) (timers : List Timer)
           others = leaves.others;
           len = omega (arith, leaves.len);
           limit = leaves.limit;
+          next = leaves.next;
           same = refl;
         };
         key = asks.named;
@@ -127,6 +127,7 @@ module _ (a : Controller) (id : Id) (t : Turn) (key : Key) (timers : List Timer)
           others = leaves.others;
           len = leaves.len;
           limit = leaves.limit;
+          next = leaves.next;
           epochs = left_by ∙ ap (λ (r : Record). all_left (row_epochs r.handler epoch) a.epochs) gone.1 ∙ ap (λ (e : ℕ). all_left (row_epochs h.payload.handler e) a.epochs) gone.2;
           same = refl;
         };

@@ -147,7 +147,7 @@ module _ (a b : Controller) (key : Key) (f : Fired) (h : FiresAt a b key f) (non
   }
 
   allowed : MayFireNow key m.must → in_flight_on m < a.settings.in_flight → AllowedOn (rules_of a.settings) (Fire f.context key) m
-  allowed now room = (now, idle_on, room, is_new a.program a.mails.mails a.contexts f.context h.number (λ k. part_of a.accounts k) (λ k. times_of a.timers k) m x.keys)
+  allowed now room = (now, idle_on, room, is_new a.program a.mails.mails a.contexts f.context h.number.free (λ k. part_of a.accounts k) (λ k. times_of a.timers k) m x.keys)
 
   pub stands_fire : IsReached (rules_of a.settings) (shown_program a.program) m → MayFireNow key m.must → in_flight_on m < a.settings.in_flight
       → StandsFor (fired_one a b key f h none) (happens_on (shown_program a.program) (Fire f.context key) None m)

@@ -42,6 +42,7 @@ pub mod FiresFlow
 pub mod FiresStand
 pub mod Enters
 pub mod Numbers
+pub mod Numbered
 pub mod Rows
 pub mod Taken
 pub mod KeysStay

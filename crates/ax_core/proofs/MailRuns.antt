@@ -19,6 +19,7 @@ use Rattle.ax_core.specs.declared.controller.Controller.{Controller}
 use Rattle.ax_core.specs.Sound.{InRange, StandsFor, IsSound}
 use Rattle.ax_core.specs.Events.{SameRules, FiresNext, Runs, event_of, KeysStay}
 use Rattle.ax_core.specs.Order.{RunsFirst, idle_in}
+use Rattle.ax_core.specs.Numbers.{NumbersBehind}
 use Rattle.ax_core.specs.Calls.{MayStart, MayReply, Started, Replied}
 use Rattle.ax_core.proofs.CallOrder.{first_start, first_reply}
 use Rattle.ax_core.proofs.Fronts.{behind_mail, IsStartOf}
@@ -26,6 +27,7 @@ use Rattle.ax_core.proofs.CalledRuns.{runs_start, runs_reply}
 use Rattle.ax_core.proofs.CallFlows.{Follows, follows_rules, follows_rooms, start_follows, reply_follows}
 use Rattle.ax_core.proofs.Conditions.{may_start, may_reply}
 use Rattle.ax_core.proofs.IdleKeys.{started_idle, replied_idle}
+use Rattle.ax_core.proofs.Numbered.{started_numbers, replied_numbers}
 
 -- behind the callback, and the firing if any, it stands for what is left
 stands_next : (a b : Controller) (fired : Option Fired) (m : MachineControl) → FiresNext a b fired m → (n : MachineControl) × StandsFor b n
@@ -41,9 +43,10 @@ pub record HasRun (a b : Controller) (f : Effects) : Type 0 where
   pub keys : KeysStay a b
   pub order : (m : MachineControl) → StandsFor a m → RunsFirst a b f m
   pub idle : idle_in b ≡ idle_in a
+  pub number : NumbersBehind a b f.fired
 
-has_run : (a b : Controller) (f : Effects) → IsSound a → Follows a b → ((m : MachineControl) → StandsFor a m → Runs a b f m) → ((m : MachineControl) → StandsFor a m → Runs a b f m → RunsFirst a b f m) → idle_in b ≡ idle_in a → HasRun a b f
-has_run a b f x follows runs first idle =
+has_run : (a b : Controller) (f : Effects) → IsSound a → Follows a b → ((m : MachineControl) → StandsFor a m → Runs a b f m) → ((m : MachineControl) → StandsFor a m → Runs a b f m → RunsFirst a b f m) → idle_in b ≡ idle_in a → NumbersBehind a b f.fired → HasRun a b f
+has_run a b f x follows runs first idle number =
     let run : Runs a b f x.control = runs x.control x.stands in
     let next : (n : MachineControl) × StandsFor b n = stands_next a b f.fired (happens_on (shown_program a.program) (event_of f.key f.ran) None x.control) run.next in
     record {
@@ -54,6 +57,7 @@ has_run a b f x follows runs first idle =
       keys = follows.keys;
       order = λ m y. first m y (runs m y);
       idle = idle;
+      number = number;
     }
 
 -- each clause of it
@@ -85,6 +89,10 @@ pub run_idle : (a b : Controller) (result : Result Effects NoMemory) → IfOk re
 run_idle a b (Ok f) x = x.idle
 run_idle a b (Err e) x = tt
 
+pub run_number : (a b : Controller) (result : Result Effects NoMemory) → IfOk result (HasRun a b) → IfOk result (λ f. NumbersBehind a b f.fired)
+run_number a b (Ok f) x = x.number
+run_number a b (Err e) x = tt
+
 -- a mail was taken from the mailbox of a sound controller
 pub record IsTaken (a : Controller) (left : Queue) (first : Mail) : Type 0 where
   pub sound : IsSound a
@@ -111,6 +119,7 @@ module _ (a : Controller) (left : Queue) (first : Mail) (taken : IsTaken a left 
         (runs_start a b first left.mails id f taken.sound taken.accepted taken.fits taken.mails starts said as_left)
         (λ m y runs. first_start a b id first left.mails f taken.sound taken.mails m y runs starts said as_left)
         (started_idle a b left id f started)
+        (started_numbers a b left id f started)
       where
         as_left : Has a.contexts id (Started (behind_mail a left.mails) b id f)
         as_left = subst (λ (q : Queue). Has a.contexts id (Started (record a { mails = q }) b id f)) (sym kept) started
@@ -123,6 +132,7 @@ module _ (a : Controller) (left : Queue) (first : Mail) (taken : IsTaken a left 
         (runs_reply a b first left.mails id f taken.sound taken.accepted taken.fits taken.mails slot answer replies said as_left)
         (λ m y runs. first_reply a b id first left.mails f taken.sound taken.mails m y runs slot answer replies said as_left)
         (replied_idle a b left id f slot answer replied)
+        (replied_numbers a b left id f slot answer replied)
       where
         as_left : Has a.contexts id (Replied (behind_mail a left.mails) b id slot answer f)
         as_left = subst (λ (q : Queue). Has a.contexts id (Replied (record a { mails = q }) b id slot answer f)) (sym kept) replied

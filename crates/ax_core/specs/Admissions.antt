@@ -3,7 +3,7 @@ use Rattle.std.specs.Prelude.{◌≡◌, ◌+◌, ℤ, List, [], ◌∷◌, ◌+
 use Rattle.ax_text.specs.declared.vocabulary.Handler.TheVariants as handler
 use Rattle.ax_machine.specs.Entries.{Key}
 use Rattle.ax_context.specs.declared.id.Id.{Id}
-use Rattle.ax_context.specs.Slots.{at, Has, live_count, OthersStay, IsFirstFree}
+use Rattle.ax_context.specs.Slots.{ahead, at, Has, live_count, OthersStay, IsFirstFree}
 use Rattle.ax_account.specs.declared.part.Occupied.{Occupied}
 use Rattle.ax_account.specs.declared.part.Occupied.TheVariants as occupied
 use Rattle.ax_account.specs.Accounts.{part_of, Changes, answer_to, occupied}
@@ -28,6 +28,7 @@ pub record TakesIn (old new : Controller) (r : Record) (id : Id) : Type 0 where
   pub free : at old.contexts id ≡ None
   pub made : Has new.contexts id (λ c. c ≡ record { payload = r; epoch = current_of old.epochs; number = c.number; count = 1 })
   pub number : Has new.contexts id (λ c. IsFirstFree old.contexts c.number)
+  pub next : Has new.contexts id (λ c. new.contexts.next ≡ ahead c.number 1)
   pub others : OthersStay old.contexts new.contexts id
   pub len : live_count new.contexts ≡ live_count old.contexts + 1
   pub limit : new.contexts.limit ≡ old.contexts.limit

@@ -95,6 +95,7 @@ pub record IsHeld (old new : Slots Record) (id : Id) (n : ℕ) : Type 0 where
   pub others : OthersStay old new id
   pub len : live_count new ≡ live_count old
   pub limit : new.limit ≡ old.limit
+  pub next : new.next ≡ old.next
 
 -- items went last into a shard's queue, in order
 pub record IsQueued (old new : Buffer) (shard : ℕ) (is : List Item) : Type 0 where

@@ -35,6 +35,7 @@ pub record Leaves (old new : Slots Record) (id : Id) (result : Released Record) 
   pub others : OthersStay old new id
   pub len : live_count new + gone_count result ≡ live_count old
   pub limit : new.limit ≡ old.limit
+  pub next : new.next ≡ old.next
 
 -- the last reference is given up, of a context with this handler and epoch
 pub record IsLast (old new : Slots Record) (id : Id) (handler : Handler) (epoch : ℕ) : Type 0 where
@@ -55,6 +56,7 @@ pub record WaitsOn (a b : Controller) (id : Id) (h : Held Record) : Type 0 where
   pub others : OthersStay a.contexts b.contexts id
   pub len : live_count b.contexts ≡ live_count a.contexts
   pub limit : b.contexts.limit ≡ a.contexts.limit
+  pub next : b.contexts.next ≡ a.contexts.next
   pub same : b ≡ record a { contexts = b.contexts }
 
 -- or that was the last: its context is given up, and its row leaves its epoch
@@ -64,6 +66,7 @@ pub record IsGivenUp (a b : Controller) (id : Id) (h : Held Record) : Type 0 whe
   pub others : OthersStay a.contexts b.contexts id
   pub len : live_count b.contexts + 1 ≡ live_count a.contexts
   pub limit : b.contexts.limit ≡ a.contexts.limit
+  pub next : b.contexts.next ≡ a.contexts.next
   pub epochs : b.epochs ≡ all_left (row_epochs h.payload.handler h.epoch) a.epochs
   pub same : b ≡ record a { contexts = b.contexts; epochs = b.epochs }
 

@@ -4,7 +4,7 @@ use Rattle.ax_text.specs.declared.vocabulary.Handler.TheVariants as handler
 use Rattle.ax_text.specs.Times.{least_time, later_times}
 use Rattle.ax_machine.specs.Entries.{Key}
 use Rattle.ax_context.specs.declared.id.Id.{Id}
-use Rattle.ax_context.specs.Slots.{at, IsTaken, OthersStay, live_count}
+use Rattle.ax_context.specs.Slots.{ahead, at, IsFirstFree, OthersStay, live_count}
 use Rattle.ax_account.specs.declared.part.Next.TheVariants as next
 use Rattle.ax_account.specs.Parts.{next_of, fired_by}
 use Rattle.ax_account.specs.Queues.{without}
@@ -31,7 +31,8 @@ pub record FiresAt (old new : Controller) (key : Key) (f : Fired) : Type 0 where
   pub times : PutsTimes old.timers new.timers key (later_times (times_of old.timers key))
   pub free : at old.contexts id ≡ None
   pub made : at new.contexts id ≡ Some (record { payload = firing key f.time f.mark; epoch = epoch; number = f.context; count = 1 })
-  pub number : IsTaken old.contexts f.context → ⊥
+  pub number : IsFirstFree old.contexts f.context
+  pub next : new.contexts.next ≡ ahead f.context 1
   pub others : OthersStay old.contexts new.contexts id
   pub len : live_count new.contexts ≡ live_count old.contexts + 1
   pub limit : new.contexts.limit ≡ old.contexts.limit

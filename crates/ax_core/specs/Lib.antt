@@ -15,3 +15,4 @@ pub mod Closings
 pub mod Admissions
 pub mod Order
 pub mod Requests
+pub mod Numbers

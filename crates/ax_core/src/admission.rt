@@ -10,6 +10,7 @@ ghost use Rattle.ax_core.specs.May.{may_admit};
 ghost use Rattle.ax_core.specs.Sound.{StandsFor, IsSound};
 ghost use Rattle.ax_core.specs.Events.{SameRules, KeysStay, Makes, MayAdmitOn};
 ghost use Rattle.ax_core.specs.Order.{Posts, begins_where, idle_in};
+ghost use Rattle.ax_core.specs.Numbers.{IsNumbered};
 ghost use Rattle.ax_core.specs.Admissions.{row_record, start_mails, TakesIn};
 
 use crate::controller::Controller;
@@ -56,6 +57,7 @@ impl Controller {
         ensures keys { OnOk result (KeysStay self.old self.new) }
         ensures order { IfOk result (λ n. (m : MachineControl) → StandsFor self.old m → Posts self.old self.new (begins_where (is_free_on (m.controls key)) n)) }
         ensures idle { OnOk result (idle_in self.new ≡ idle_in self.old) }
+        ensures number { IfOk result (λ n. IsNumbered self.old self.new n) }
         ensures event { IfOk result (λ n. (m : MachineControl) → StandsFor self.old m → Makes self.old self.new (Admit n key time values) m) }
     {
         sizes_law(&self.epochs);

@@ -9,6 +9,7 @@ ghost use Rattle.ax_core.specs.Flow.{out_of};
 ghost use Rattle.ax_core.specs.Sound.{StandsFor, IsSound};
 ghost use Rattle.ax_core.specs.Events.{SameRules, AsksAll, AreOut, IsBatchOut, ServesAll, names_in, KeysStay, OfKeys};
 ghost use Rattle.ax_core.specs.Order.{Posts, replies_in, SendsFirst, idle_in};
+ghost use Rattle.ax_core.specs.Numbers.{NoneNumbered};
 ghost use Rattle.ax_core.specs.Batches.{IsPlaceOf, Forgets, OthersOut, mails_in};
 
 use crate::controller::Controller;
@@ -51,6 +52,7 @@ impl Controller {
         ensures keys { OnOk result (KeysStay self.old self.new) }
         ensures order { IfOk result (λ batch. SendsFirst self.old self.new shard max batch) }
         ensures idle { OnOk result (idle_in self.new ≡ idle_in self.old) }
+        ensures number { OnOk result (NoneNumbered self.old self.new) }
     {
         let batch = self.buffer.take_batch(self.alloc, shard, max)?;
         put_names(&mut self.outs[shard as usize], &batch)?;
@@ -71,6 +73,7 @@ impl Controller {
         ensures keys { KeysStay self.old self.new }
         ensures order { Posts self.old self.new (replies_in self.old r) }
         ensures idle { idle_in self.new ≡ idle_in self.old }
+        ensures number { NoneNumbered self.old self.new }
     {
         limit_law(&self.contexts);
         self.forget(&r);

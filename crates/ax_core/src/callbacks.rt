@@ -13,6 +13,7 @@ ghost use Rattle.ax_core.specs.declared.effects.Ran.TheVariants as ran;
 ghost use Rattle.ax_core.specs.May.{has_mail};
 ghost use Rattle.ax_core.specs.Sound.{StandsFor, IsSound};
 ghost use Rattle.ax_core.specs.Events.{SameRules, KeysStay, Runs, MayCallOn};
+ghost use Rattle.ax_core.specs.Numbers.{NumbersBehind};
 ghost use Rattle.ax_core.specs.Order.{RunsFirst, idle_in};
 ghost use Rattle.ax_core.specs.Callbacks.{Begins, WaitsAt, ResumedAt, HasBegun, HasResumed, item_for, items_for, IsHeld, IsQueued, ending, behind_marks, ended, all_left, AllMayLeave, row_epochs, with_start, waits_next, HandsOver, GoesOn};
 ghost use Rattle.ax_core.specs.Calls.{LeftBy, CallEnds, IsReady, MayStart, MayReply, Started, Replied};
@@ -60,6 +61,7 @@ impl Controller {
         ensures sound { OnOk result (IsSound self.new) }
         ensures same { OnOk result (SameRules self.old self.new) }
         ensures outs { OnOk result (self.new.outs ≡ self.old.outs) }
+        ensures number { IfOk result (λ f. NumbersBehind self.old self.new f.fired) }
         ensures event { IfOk result (λ f. (m : MachineControl) → StandsFor self.old m → Runs self.old self.new f m) }
         ensures keys { OnOk result (KeysStay self.old self.new) }
         ensures order { IfOk result (λ f. (m : MachineControl) → StandsFor self.old m → RunsFirst self.old self.new f m) }

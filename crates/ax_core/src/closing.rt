@@ -10,6 +10,7 @@ ghost use Rattle.ax_core.specs.Epochs.{closing_of};
 ghost use Rattle.ax_core.specs.Closings.{barrier_left, Marks, MarksIf, MarksAll, books, current_count, every, is_free_at};
 ghost use Rattle.ax_core.specs.Sound.{rules_of, StandsFor, IsSound};
 ghost use Rattle.ax_core.specs.Events.{SameRules, KeysStay, Makes, SendsNext};
+ghost use Rattle.ax_core.specs.Numbers.{NoneNumbered};
 ghost use Rattle.ax_core.specs.Order.{Posts, idle_in, BecomeIdle, IdleBehind};
 
 use crate::controller::Controller;
@@ -50,6 +51,7 @@ impl Controller {
         ensures outs { OnOk result (self.new.outs ≡ self.old.outs) }
         ensures keys { OnOk result (KeysStay self.old self.new) }
         ensures order { OnOk result (Posts self.old self.new []) }
+        ensures number { OnOk result (NoneNumbered self.old self.new) }
         ensures idle { OnOk result ((c : MachineControl) → StandsFor self.old c → IdleBehind self.old self.new m c) }
         ensures event { OnOk result ((c : MachineControl) → StandsFor self.old c → Makes self.old self.new (Close (closing_of m)) c) }
     {
@@ -69,6 +71,7 @@ impl Controller {
         ensures outs { OnOk result (self.new.outs ≡ self.old.outs) }
         ensures keys { OnOk result (KeysStay self.old self.new) }
         ensures order { OnOk result (Posts self.old self.new []) }
+        ensures number { OnOk result (NoneNumbered self.old self.new) }
         ensures idle { OnOk result ((c : MachineControl) → StandsFor self.old c → BecomeIdle self.old self.new time c) }
         ensures event { OnOk result ((c : MachineControl) → StandsFor self.old c → Makes self.old self.new (Close (ByWatermark time)) c) }
     {
@@ -96,6 +99,7 @@ impl Controller {
         ensures outs { OnOk result (self.new.outs ≡ self.old.outs) }
         ensures keys { OnOk result (KeysStay self.old self.new) }
         ensures order { OnOk result (Posts self.old self.new []) }
+        ensures number { OnOk result (NoneNumbered self.old self.new) }
         ensures idle { OnOk result (idle_in self.new ≡ idle_in self.old) }
         ensures event { OnOk result ((c : MachineControl) → StandsFor self.old c → Makes self.old self.new (Close (ByBarrier id)) c) }
     {
@@ -116,6 +120,7 @@ impl Controller {
         ensures outs { self.new.outs ≡ self.old.outs }
         ensures keys { KeysStay self.old self.new }
         ensures order { Posts self.old self.new [] }
+        ensures number { NoneNumbered self.old self.new }
         ensures idle { idle_in self.new ≡ idle_in self.old }
         ensures event { (c : MachineControl) → StandsFor self.old c → SendsNext self.old self.new result c }
     {

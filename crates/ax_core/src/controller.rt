@@ -10,6 +10,7 @@ ghost use Rattle.ax_core.specs.Flow.{shard_of};
 ghost use Rattle.ax_core.specs.Rooms.{AreTaken, IsNew};
 ghost use Rattle.ax_core.specs.Sound.{InRange, StandsFor, IsSound};
 ghost use Rattle.ax_core.specs.Order.{idle_in};
+ghost use Rattle.ax_core.specs.Numbers.{NothingNumbered};
 
 use crate::record::{Name, Record};
 use crate::rooms::{Rooms, take_rooms};
@@ -56,6 +57,7 @@ impl Controller {
         ensures settings { IfOk result (λ a. a.settings ≡ settings) }
         ensures stands { IfOk result (λ a. StandsFor a (at_origin (first (shown_program program)))) }
         ensures idle { IfOk result (λ a. idle_in a ≡ []) }
+        ensures number { IfOk result (λ a. NothingNumbered a) }
     {
         let rooms = take_rooms(alloc, settings, program.width())?;
         Ok(begin(alloc, program, settings, rooms))

@@ -11,6 +11,7 @@ ghost use Rattle.ax_core.specs.Sound.{StandsFor, IsSound};
 ghost use Rattle.ax_core.specs.Events.{SameRules, KeysStay, Fires, MayFireOn};
 ghost use Rattle.ax_core.specs.declared.effects.Ran.TheVariants as ran;
 ghost use Rattle.ax_core.specs.Order.{Posts, idle_in};
+ghost use Rattle.ax_core.specs.Numbers.{IsNumbered};
 ghost use Rattle.ax_core.specs.Firings.{FiresAt};
 
 use crate::controller::Controller;
@@ -54,6 +55,7 @@ impl Controller {
         ensures keys { OnOk result (KeysStay self.old self.new) }
         ensures order { IfOk result (λ f. Posts self.old self.new (ran.Start f.context ∷ [])) }
         ensures idle { IfOk result (λ f. idle_in self.old ≡ f.key ∷ idle_in self.new) }
+        ensures number { IfOk result (λ f. IsNumbered self.old self.new f.context) }
         ensures event { IfOk result (λ f. (m : MachineControl) → StandsFor self.old m → Fires self.old self.new f m) }
     {
         program_is_accepted();

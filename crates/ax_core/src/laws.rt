@@ -1,11 +1,13 @@
 //! What holds of a controller between its calls. Each is the contract of a function that does nothing, which a caller's proof may cite.
-ghost use Rattle.std.specs.Prelude.{◌≡◌, ◌↔◌, ℕ};
+ghost use Rattle.std.specs.Prelude.{◌≡◌, ◌↔◌, ◌<◌, ◌-◌, ◌^◌, ℕ, List, length};
 ghost use Rattle.std.specs.List.{Contains, IsDistinct};
 ghost use Rattle.ax_machine.specs.Entries.{Key};
 ghost use Rattle.ax_execution.specs.Machine.{Serve};
 ghost use Rattle.ax_execution.specs.MachineControls.{MachineControl};
 ghost use Rattle.ax_execution.specs.ControlsAllowed.{AllowedOn};
 ghost use Rattle.ax_core.specs.Sound.{rules_of, StandsFor, IsSound};
+ghost use Rattle.ax_core.specs.declared.controller.Controller.{Controller as AnyController};
+ghost use Rattle.ax_core.specs.Numbers.{NothingNumbered, Call, AreCalls, numbers_of, numbers_from};
 ghost use Rattle.ax_core.specs.Order.{Asked};
 ghost use Rattle.ax_core.specs.Requests.{requests_in, all_requests, same_asked, IsQueuedOrOut, IsUnserved};
 
@@ -24,3 +26,10 @@ pub fn requests_stand_until_served(controller: &Controller)
 {
     numbers_law(&controller.contexts);
 }
+
+/// The contexts that a run of calls makes, from a controller where none was made yet, get the numbers 1, 2, 3 and so on in the
+/// order in which they are made, while there are fewer than `2^64 - 1` of them.
+pub fn contexts_are_counted()
+    ensures { (a : AnyController) (calls : List Call) → NothingNumbered a → AreCalls a calls → length (numbers_of calls) < 2 ^ 64 - 1
+        → numbers_of calls ≡ numbers_from 1 (length (numbers_of calls)) }
+{}

@@ -56,7 +56,7 @@ last_first (x ∷ y ∷ fs) (suc n) f h e = ap (λ (ys : List CodeFrame). x ∷ 
 rest_some : (x : Option CodeFrame) (place : ℕ) → rest_in x ≡ Some place → x ≡ Some (frame.Rest place)
 rest_some None place h = absurd (none_some h)
 rest_some (Some (frame.Rest q)) place h = ap (λ (i : ℕ). Some (frame.Rest i)) (some_same h)
-rest_some (Some (frame.Turns turn turns at body)) place h = absurd (none_some h)
+rest_some (Some (frame.Turns repeat)) place h = absurd (none_some h)
 
 pub front_some : (fs : List CodeFrame) (place : ℕ) → front_of fs ≡ Some place → 0 < length fs
 front_some [] place h = absurd (none_some h)

@@ -5,6 +5,7 @@ use Rattle.ax_text.specs.Run as run
 use Rattle.ax_text.specs.Controls.{Frame, Cursor, Next, Control}
 use Rattle.ax_text.specs.Controls as control
 use Rattle.ax_lang.specs.declared.program.Program.{Program}
+use Rattle.ax_future.specs.declared.node.Repeat.{Repeat}
 use Rattle.ax_future.specs.declared.node.Frame.{Frame as CodeFrame}
 use Rattle.ax_future.specs.declared.node.Frame.TheVariants as frame
 use Rattle.ax_future.specs.declared.node.Assign.{Assign}
@@ -16,9 +17,13 @@ use Rattle.ax_future.specs.declared.node.Node.TheVariants as node
 use Rattle.ax_lang.specs.Forms.{shown_loop}
 use Rattle.ax_lang.specs.Shown.{text_from}
 
+-- the turns that are left of an `each`
+abbrev pub repeat_in : Program → Repeat → Frame
+repeat_in p r = control.Turns (shown_loop r.turn) (drop r.at r.turns) (text_from p r.body)
+
 abbrev pub frame_in : Program → CodeFrame → Frame
 frame_in p (frame.Rest place) = control.Rest (text_from p place)
-frame_in p (frame.Turns turn turns at body) = control.Turns (shown_loop turn) (drop at turns) (text_from p body)
+frame_in p (frame.Turns repeat) = repeat_in p repeat.value
 
 -- the code has the innermost frame last
 abbrev pub cursor_in : Program → List CodeFrame → Cursor
@@ -46,7 +51,7 @@ behind (x ∷ k) = k
 abbrev pub rest_in : Option CodeFrame → Option ℕ
 rest_in None = None
 rest_in (Some (frame.Rest place)) = Some place
-rest_in (Some (frame.Turns turn turns at body)) = None
+rest_in (Some (frame.Turns repeat)) = None
 
 -- the place in front, where the steps from a place on are in front
 abbrev pub front_of : List CodeFrame → Option ℕ
@@ -55,7 +60,7 @@ front_of fs = rest_in (slice_get fs (length fs - 1))
 -- the highest place that frames name
 abbrev pub place_of : CodeFrame → ℕ
 place_of (frame.Rest place) = place
-place_of (frame.Turns turn turns at body) = body
+place_of (frame.Turns repeat) = repeat.value.body
 
 abbrev pub highest : List CodeFrame → ℕ
 highest [] = 0

@@ -1,10 +1,12 @@
 //! How a handler takes an answer.
-ghost use Rattle.std.specs.Prelude.{ℕ, List, ◌≡◌, ◌≤◌, ◌+◌, ◌++◌, [], length, map, max, IfOk, OnOk};
+ghost use Rattle.std.specs.Prelude.{ℕ, List, ◌∷◌, ◌≡◌, ◌≤◌, ◌+◌, ◌++◌, [], length, map, max, IfOk, OnOk};
 ghost use Rattle.ax_text.specs.Exprs.{Facts as AnyFacts};
 ghost use Rattle.ax_text.specs.Run.{with_names, take_in, turns_of, number_or};
 ghost use Rattle.ax_text.specs.Prints.{has};
-ghost use Rattle.ax_text.specs.Controls.{slots, also, begin, joined, resume, give_in, without};
+ghost use Rattle.ax_text.specs.Controls.{Turns, slots, also, begin, joined, resume, give_in, without};
 ghost use Rattle.ax_lang.specs.declared.program.Program.{Program as AnyProgram};
+ghost use Rattle.ax_lang.specs.Forms.{shown_loop};
+ghost use Rattle.ax_lang.specs.Shown.{text_from};
 ghost use Rattle.ax_future.specs.Sizes.{cursor_width, next_width, control_width};
 ghost use Rattle.ax_future.specs.Nodes.{cursor_in, next_in, after_in, control_in};
 ghost use Rattle.ax_future.specs.Talks.{known_in, talk_of, asks_in, turn_pair};
@@ -14,10 +16,10 @@ use crate::begin::{are_done, begin};
 use crate::callback::Known;
 use crate::going::{Going, assign};
 use crate::moves::put;
-use crate::node::{Assign, Cursor, Frame, Next, Node};
+use crate::node::{Assign, Cursor, Frame, Next, Node, Repeat};
 use crate::nodes::arms;
 use ax_base::{NoMemory, Pair, Pairs};
-use ax_lang::Program;
+use ax_lang::{Loop, Program};
 use ax_text::Answer;
 use std::alloc::Global;
 
@@ -71,6 +73,28 @@ fn turns_of(alloc: Global, answer: Answer) -> Result<Pairs, NoMemory>
     }
 }
 
+// The turns of an `each` go in front of what is still to be run.
+fn put_turns(
+    alloc: Global,
+    cursor: &mut Cursor,
+    turn: Loop,
+    turns: Pairs,
+    body: usize,
+) -> Result<(), NoMemory>
+    ensures { OnOk result ((p : AnyProgram) → cursor_in p cursor.new.items ≡ Turns (shown_loop turn) turns (text_from p body) ∷ cursor_in p cursor.old.items) }
+{
+    let repeat = Repeat {
+        turn,
+        turns,
+        at: 0,
+        body,
+    };
+    match Box::new(alloc, repeat) {
+        Ok(repeat) => put(cursor, Frame::Turns { repeat }),
+        Err(_) => Err(NoMemory),
+    }
+}
+
 // An answer goes to what takes it, or its turns go in front of what is still to be run.
 #[inline(always)]
 fn accept(
@@ -88,15 +112,7 @@ fn accept(
         Next::Take { assign } => take_in(going, assign, &answer),
         Next::Begin { turn, body } => {
             let turns = turns_of(alloc, answer)?;
-            put(
-                cursor,
-                Frame::Turns {
-                    turn,
-                    turns,
-                    at: 0,
-                    body,
-                },
-            )
+            put_turns(alloc, cursor, turn, turns, body)
         }
     }
 }

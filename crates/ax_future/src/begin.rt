@@ -106,6 +106,9 @@ pub fn only_in(spare: Cursor, place: usize) -> Result<Cursor, NoMemory>
 {
     let mut cursor = spare;
     cursor.clear();
+    let Ok(()) = cursor.reserve_exact(1) else {
+        return Err(NoMemory);
+    };
     put(&mut cursor, Frame::Rest { place })?;
     Ok(cursor)
 }

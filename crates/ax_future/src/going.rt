@@ -8,7 +8,7 @@ ghost use Rattle.ax_text.specs.Run.{with_names, bind, take_in, Assign as AssignT
 ghost use Rattle.ax_expr.specs.Shown.{shown_expr};
 ghost use Rattle.ax_lang.specs.Forms.{form_of, shown_loop};
 ghost use Rattle.ax_future.specs.Nodes.{after_in};
-ghost use Rattle.ax_future.specs.Talks.{names_at, known_in, talk_of, act_by, question_by, question_in, seen_question};
+ghost use Rattle.ax_future.specs.Talks.{names_at, known_in, talk_of, act_by, question_by, reading_by, changing_by, question_in, seen_question};
 
 use crate::callback::{Known, Turn};
 use crate::node::{Assign, Cursor};
@@ -121,6 +121,17 @@ impl Going {
         empty(alloc, &mut self.said.timer_ops);
     }
 
+    /// Forgets the local names, and takes the room of so many at once.
+    pub fn make_room(&mut self, names: usize) -> Result<(), NoMemory>
+        ensures { self.new.names.items ≡ [] }
+    {
+        self.names.clear();
+        match self.names.reserve_exact(names) {
+            Ok(()) => Ok(()),
+            Err(_) => Err(NoMemory),
+        }
+    }
+
     /// A handler begins: nothing is worked out or said yet. The answer is the memory of a cursor that has ended.
     #[tactic(auto, using(crate::proofs::TalkLemmas::no_names))]
     pub fn renew(&mut self, alloc: Global) -> Cursor
@@ -175,6 +186,17 @@ impl Going {
     ) -> Result<Option<Question>, NoMemory>
         ensures { IfOk result (λ q. seen_question q ≡ question_by (known_in facts.now) (form_of stmt.now) (names_at self.now.names.items)) }
     {
+        match self.reading(facts, stmt) {
+            Some(question) => Ok(Some(question)),
+            None => self.changing(alloc, facts, stmt),
+        }
+    }
+
+    // What a statement asks that reads one number or flag.
+    #[inline(always)]
+    fn reading(&self, facts: &Known<'_>, stmt: &Stmt) -> Option<Question>
+        ensures { seen_question result ≡ reading_by (known_in facts.now) (form_of stmt.now) (names_at self.now.names.items) }
+    {
         let names = &self.names;
         let question = match stmt {
             Stmt::Get {
@@ -200,6 +222,23 @@ impl Going {
                 assigned(Request::MapHas { state: *state, at }, *name, 0)
             }
             Stmt::Empty { name, state } => assigned(Request::MapEmpty { state: *state }, *name, 0),
+            _ => return None,
+        };
+        Some(question)
+    }
+
+    // What a statement asks that changes a state.
+    #[inline(always)]
+    fn changing(
+        &self,
+        alloc: Global,
+        facts: &Known<'_>,
+        stmt: &Stmt,
+    ) -> Result<Option<Question>, NoMemory>
+        ensures { IfOk result (λ q. seen_question q ≡ changing_by (known_in facts.now) (form_of stmt.now) (names_at self.now.names.items)) }
+    {
+        let names = &self.names;
+        let question = match stmt {
             Stmt::Put { state, number } => {
                 let number = value_in(facts, names, number);
                 ignored(Request::ValuePut {

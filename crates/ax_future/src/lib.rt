@@ -25,5 +25,5 @@ mod nodes;
 pub use ax_text::{Handler, TimerOp};
 pub use callback::{Ask, Asks, Facts, Known, Outs, TimerOps, Turn};
 pub use machine::Machine;
-pub use node::{Assign, Cursor, Frame, Next, Node};
+pub use node::{Assign, Cursor, Frame, Next, Node, Repeat};
 pub use nodes::{combine, compose, then};

@@ -108,6 +108,7 @@ impl Machine {
     {
         let alloc = self.alloc;
         self.node = Node::Done;
+        self.going.make_room(program.locals())?;
         let spare = self.going.renew(alloc);
         let cursor = only_in(spare, program.place_of(handler))?;
         let node = begin(alloc, program, facts, &[], cursor, &mut self.going)?;

@@ -1,5 +1,5 @@
 //! One step of a handler.
-ghost use Rattle.std.specs.Prelude.{◌≡◌, ◌≤◌, ◌<◌, ◌-◌, drop, take, length, slice_get, Some, None, ◌++◌, ◌∷◌, [], max, suc, IfOk, IfSome, OnOk};
+ghost use Rattle.std.specs.Prelude.{◌≡◌, ◌≤◌, ◌<◌, ◌-◌, ◌+◌, drop, take, length, slice_get, Some, None, ◌++◌, ◌∷◌, [], max, suc, IfOk, IfSome, OnOk};
 ghost use Rattle.ax_text.specs.Exprs.{Facts as AnyFacts};
 ghost use Rattle.ax_text.specs.Controls.{Rest, Turns, Cursor as AnyCursor};
 ghost use Rattle.ax_text.specs.Run.{loop_request};
@@ -7,13 +7,13 @@ ghost use Rattle.ax_lang.specs.declared.program.Program.{Program as AnyProgram};
 ghost use Rattle.ax_lang.specs.Forms.{form_of, text_with, top_of, shown_loop, Branches};
 ghost use Rattle.ax_lang.specs.Shown.{text_from};
 ghost use Rattle.ax_expr.specs.Shown.{shown_expr};
-ghost use Rattle.ax_future.specs.Nodes.{frame_in, cursor_in, behind, front_of, place_of, highest};
+ghost use Rattle.ax_future.specs.Nodes.{repeat_in, frame_in, cursor_in, behind, front_of, place_of, highest};
 ghost use Rattle.ax_future.specs.Talks.{known_in, talk_of};
 ghost use Rattle.ax_future.specs.Moves.{IsPlain, Moves, above};
 
 use crate::callback::Known;
 use crate::going::Going;
-use crate::node::{Cursor, Frame, Next};
+use crate::node::{Cursor, Frame, Next, Repeat};
 use ax_base::{NoMemory, Pair, Pairs};
 use ax_expr::Expr;
 use ax_lang::{Loop, Program, Step, Stmt};
@@ -180,32 +180,20 @@ fn pair_at(turns: &Pairs, at: usize) -> Pair
 }
 
 // One turn of an `each`, or its end.
-fn take_turn(
-    turn: Loop,
-    turns: Pairs,
-    at: usize,
-    body: usize,
-    cursor: &mut Cursor,
-    going: &mut Going,
-) -> Result<Move, NoMemory>
-    ensures moves { IfOk result (λ m. (p : AnyProgram) (f : AnyFacts) → Moves f p (Turns (shown_loop turn) (drop at turns) (text_from p body) ∷ cursor_in p cursor.old.items) (cursor_in p cursor.new.items) (talk_of going.old) (talk_of going.new) m) }
-    ensures places { OnOk result (highest cursor.new.items ≤ max (highest cursor.old.items) body) }
+fn take_turn(repeat: Box<Repeat>, cursor: &mut Cursor, going: &mut Going) -> Result<Move, NoMemory>
+    ensures moves { IfOk result (λ m. (p : AnyProgram) (f : AnyFacts) → Moves f p (repeat_in p repeat.value ∷ cursor_in p cursor.old.items) (cursor_in p cursor.new.items) (talk_of going.old) (talk_of going.new) m) }
+    ensures places { OnOk result (highest cursor.new.items ≤ max (highest cursor.old.items) repeat.value.body) }
     ensures above { IfOk result (λ m. above m ≡ 0) }
     ensures asks { going.new.said.asks ≡ going.old.said.asks }
 {
-    if at < turns.len() {
-        let pair = pair_at(&turns, at);
-        going.bind(turn, &pair)?;
-        put(
-            cursor,
-            Frame::Turns {
-                turn,
-                turns,
-                at: at + 1,
-                body,
-            },
-        )?;
-        put(cursor, Frame::Rest { place: body })?;
+    if repeat.at < repeat.turns.len() {
+        let pair = pair_at(&repeat.turns, repeat.at);
+        let place = repeat.body;
+        going.bind(repeat.turn, &pair)?;
+        let mut repeat = repeat;
+        repeat.at += 1;
+        put(cursor, Frame::Turns { repeat })?;
+        put(cursor, Frame::Rest { place })?;
     }
     Ok(Move::Go)
 }
@@ -258,15 +246,8 @@ fn take_other(cursor: &mut Cursor, going: &mut Going) -> Result<Move, NoMemory>
     match cursor.pop() {
         None => Ok(Move::End),
         Some(Frame::Rest { .. }) => unreachable!(),
-        Some(
-            Frame::Turns {
-                turn,
-                turns,
-                at,
-                body,
-            },
-        ) => {
-            let taken = take_turn(turn, turns, at, body, cursor, going)?;
+        Some(Frame::Turns { repeat }) => {
+            let taken = take_turn(repeat, cursor, going)?;
             Ok(taken)
         }
     }

@@ -3,20 +3,23 @@ use ax_base::Pairs;
 use ax_lang::Loop;
 use ax_text::Request;
 
-/// What is still to be run: the steps from a place on, or the turns that are left of an `each`.
+/// The turns of an `each` from the one numbered `at` on, each of which runs the steps from `body` on.
+#[derive(Drop)]
+pub struct Repeat {
+    pub turn: Loop,
+    pub turns: Pairs,
+    pub at: usize,
+    pub body: usize,
+}
+
+/// What is still to be run: the steps from a place on, or the turns that are left of an `each`. It is small, since most
+/// frames are places.
 #[derive(Drop)]
 pub enum Frame {
     /// The steps from a place of the program on.
-    Rest {
-        place: usize,
-    },
-    /// The turns of an `each` from the one numbered `at` on, each of which runs the steps from `body` on.
-    Turns {
-        turn: Loop,
-        turns: Pairs,
-        at: usize,
-        body: usize,
-    },
+    Rest { place: usize },
+    /// The turns that are left of an `each`.
+    Turns { repeat: Box<Repeat> },
 }
 
 /// A place in a program's text, with the turns that are left of each open `each`. Frames stand innermost last.

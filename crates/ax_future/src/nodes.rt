@@ -1,5 +1,5 @@
 //! The three ways to put nodes together.
-ghost use Rattle.std.specs.Prelude.{◌≡◌, ◌++◌, [], IfOk, OnOk};
+ghost use Rattle.std.specs.Prelude.{◌≡◌, ◌++◌, [], IsOk, IfOk, OnOk};
 ghost use Rattle.ax_text.specs.Exprs.{Facts as AnyFacts};
 ghost use Rattle.ax_text.specs.Run.{World};
 ghost use Rattle.ax_text.specs.Controls.{Answers, Arms, Wait as WaitsFor, taken_by, compose, combine, left as what_is_left, run_cursor};
@@ -13,11 +13,12 @@ use ax_text::Request;
 use std::alloc::Global;
 
 /// The answer that `first` waits for goes to `assign`: `thenApply`, and `thenAccept` where nothing takes it, of a state
-/// future (Flink, FLIP-424). A node that doesn't wait for one answer stays as it is. The only fault is `NoMemory`.
+/// future (Flink, FLIP-424). A node that is done, or has arms, stays as it is. It takes no memory and always succeeds.
 #[inline(always)]
 pub fn then(_alloc: Global, first: Node, assign: Assign) -> Result<Node, NoMemory>
     ensures control { IfOk result (λ node. (p : AnyProgram) → control_in p node ≡ taken_by (control_in p first) (after_in assign)) }
     ensures left { IfOk result (λ node. (p : AnyProgram) (f : AnyFacts) (answers : Answers) (w : World) → what_is_left f answers (control_in p node) w ≡ left_taken f answers (control_in p first) (after_in assign) w) }
+    ensures ok { IsOk result }
 {
     match first {
         Node::Wait {
@@ -35,8 +36,10 @@ pub fn then(_alloc: Global, first: Node, assign: Assign) -> Result<Node, NoMemor
     }
 }
 
-/// The text goes on at `rest` where `first` has ended: `thenCompose` of a state future (Flink, FLIP-424). It takes time
-/// for the frames that `first` has left, and none for those of `rest`. The only fault is `NoMemory`.
+/// The text goes on at `rest` where `first` has ended: `thenCompose` of a state future (Flink, FLIP-424). A wait, and two
+/// arms, keep `rest` behind what they have left themselves; what is done becomes two arms that are done, with `rest`
+/// behind. It takes time for the frames that `first` has left, and none for those of `rest`. The only fault is `NoMemory`,
+/// after which both are gone.
 #[inline(always)]
 pub fn compose(alloc: Global, first: Node, rest: Cursor) -> Result<Node, NoMemory>
     ensures control { IfOk result (λ node. (p : AnyProgram) → control_in p node ≡ compose (control_in p first) (cursor_in p rest.items)) }
@@ -65,7 +68,8 @@ pub fn compose(alloc: Global, first: Node, rest: Cursor) -> Result<Node, NoMemor
     }
 }
 
-/// Two arms wait side by side: `thenCombine` of two state futures (Flink, FLIP-424). The only fault is `NoMemory`.
+/// Two arms side by side, and nothing behind them, also where an arm is done: `thenCombine` of two state futures (Flink,
+/// FLIP-424). The only fault is `NoMemory`, after which both are gone.
 pub fn combine(alloc: Global, left: Node, right: Node) -> Result<Node, NoMemory>
     ensures control { IfOk result (λ node. (p : AnyProgram) → control_in p node ≡ combine (control_in p left) (control_in p right)) }
     ensures left { IfOk result (λ node. (p : AnyProgram) (f : AnyFacts) (answers : Answers) (w : World) → what_is_left f answers (control_in p node) w ≡ what_is_left f answers (control_in p right) (what_is_left f answers (control_in p left) w)) }

@@ -1,8 +1,8 @@
 //! One run over memory, and what it must leave.
-use crate::by_key::by_key;
-use crate::inputs::with_events;
 use ax_base::{Bytes, NoMemory, SureSink, SureSource};
 use ax_cli::{Status, run_alone};
+use ax_task_tests::by_key::by_key;
+use ax_task_tests::inputs::{fed, with_events};
 use std::alloc::{AllocError, AllocGlobal, Global};
 use std::process::Abort;
 use std::test::Fail;
@@ -125,15 +125,6 @@ pub fn expect_events(
 ) -> Result<(), Fail> {
     let input = with_events(rt.alloc(), COUNTER.as_bytes(), events.as_bytes())?;
     expect(rt, &[input.as_slice()], out, status)
-}
-
-/// A text with line feeds in place of `;`.
-pub fn fed(alloc: Global, text: &str) -> Result<Bytes, NoMemory> {
-    let mut bytes = Bytes::new(alloc);
-    for byte in text.as_bytes() {
-        bytes.push(if *byte == b';' { b'\n' } else { *byte })?;
-    }
-    Ok(bytes)
 }
 
 // The status that a table names: none of it is Ok, and else `p` or `i` with line and kind.

@@ -1,8 +1,8 @@
 //! What is written where one read or one write fails.
-use crate::by_key::by_key;
 use crate::expect::{COUNTER, WORDS, joined, line_of};
 use ax_base::{Bytes, MemSink, MemSource, Nums, SureSink, SureSource};
 use ax_cli::{Status, run_alone};
+use ax_task_tests::by_key::by_key;
 use std::alloc::{AllocGlobal, Global};
 use std::process::Abort;
 use std::test::Fail;

@@ -2,31 +2,19 @@
 #![tactic(auto)]
 
 #[cfg(test)]
-mod by_key;
-#[cfg(test)]
-mod drawn;
-#[cfg(test)]
-mod draws;
-#[cfg(test)]
 mod events;
 #[cfg(test)]
 mod expect;
 #[cfg(test)]
 mod failing;
-#[cfg(test)]
-mod faulty;
-pub mod inputs;
+pub mod faulty;
 #[cfg(test)]
 mod language;
 #[cfg(test)]
 mod limits;
-#[cfg(test)]
-mod orders;
 #[cfg(test)]
 mod outside;
 #[cfg(test)]
 mod programs;
 #[cfg(test)]
 mod timers;
-#[cfg(test)]
-mod ways;

@@ -1,9 +1,9 @@
 //! Words, and sources and sinks that fail or take little at a time.
-use crate::by_key::by_key;
 use crate::expect::{COUNTER, WORDS, joined, line_of, program};
 use crate::faulty::{FaultySink, FaultySource};
 use ax_base::{SinkFault, SureSink, SureSource};
 use ax_cli::{Status, run_alone};
+use ax_task_tests::by_key::by_key;
 use std::alloc::AllocGlobal;
 use std::process::Abort;
 use std::test::Fail;
@@ -273,12 +273,12 @@ const OVERTAKEN: [(&str, &str, &str); 7] = [
     (
         "--batch=1000",
         "--in-flight=2",
-        "o b 1\no a 5\no f 1\no g 1\no h 1\no a 12\no b 2\n",
+        "o b 1\no f 1\no g 1\no h 1\no a 5\no b 2\no a 12\n",
     ),
     (
         "--batch=1000",
         "--in-flight=6000",
-        "o b 1\no f 1\no h 1\no g 1\no a 5\no b 2\no a 12\n",
+        "o b 1\no f 1\no h 1\no b 2\no g 1\no a 5\no a 12\n",
     ),
     (
         "--batch=1",
@@ -288,7 +288,7 @@ const OVERTAKEN: [(&str, &str, &str); 7] = [
     (
         "--batch=2",
         "--in-flight=6000",
-        "o b 1\no g 1\no a 5\no f 1\no h 1\no a 12\no b 2\n",
+        "o b 1\no f 1\no h 1\no b 2\no g 1\no a 5\no a 12\n",
     ),
     (
         "--shards=1",

@@ -20,5 +20,6 @@ returns-in-Gone c = record {
     others = c.in-Gone.ensures.others;
     len = c.in-Gone.ensures.len;
     limit = c.in-Gone.ensures.limit;
+    next = c.in-Gone.ensures.next;
   };
 }

@@ -12,6 +12,7 @@ use Rattle.ax_core.proofs.Taken.{is_there}
 use Rattle.ax_core.proofs.Rows.{has_place, mail_fits, count_fits, same_rules, sound_row, makes}
 use Rattle.ax_core.proofs.KeysStay.{keys_made}
 use Rattle.ax_core.proofs.Orders.{posts_row}
+use Rattle.ax_core.proofs.Numbered.{row_numbered}
 use Rattle.ax_core.proofs.controller.Controller.admit.Goals as goal
 
 pub take_in-requires-clause-room : goal.take_in-requires-clause-room
@@ -65,3 +66,6 @@ returns-clause-order c =
     let taken : TakesIn a c.take_in.new.self r c.in_ok-id.id = subst (λ (v : Record). TakesIn c.args.self.now c.take_in.new.self v c.in_ok-id.id)
     (c.on_row-record.ensures ∙ ap (λ (z : ℤ). row_record c.args.key z c.args.self.now.wm c.args.values) (to_z-of_z w64 c.args.time c.ranges.time)) c.in_ok-id.ensures in
     λ m h. posts_row a c.take_in.new.self r c.in_ok-id.id c.number.result m c.requires.sound.flow h taken c.number.ensures.value
+
+pub returns-clause-number : goal.returns-clause-number
+returns-clause-number c = row_numbered c.args.self.now c.take_in.new.self c.on_row-record.result c.in_ok-id.id c.number.result c.in_ok-id.ensures c.number.ensures.value

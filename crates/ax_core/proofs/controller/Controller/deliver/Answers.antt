@@ -5,6 +5,7 @@ use Rattle.ax_core.specs.Batches.{mails_in}
 use Rattle.ax_core.proofs.Deliveries.{serves_all, sound_served, same_served, mails_fit}
 use Rattle.ax_core.proofs.KeysStay.{keys_same}
 use Rattle.ax_core.proofs.Orders.{posts_replies}
+use Rattle.ax_core.proofs.Numbered.{same_numbers}
 use Rattle.ax_core.proofs.controller.Controller.deliver.Goals as goal
 
 pub post_all-requires : goal.post_all-requires
@@ -39,3 +40,6 @@ returns-clause-order c =
 
 pub returns-clause-idle : goal.returns-clause-idle
 returns-clause-idle c = ap (λ (d : Controller). d.accounts.idle) c.forget.ensures.same
+
+pub returns-clause-number : goal.returns-clause-number
+returns-clause-number c = same_numbers c.args.self.now (record c.forget.new.self { mails = c.post_all.new.mails }) (ap (λ (d : Controller). d.contexts) c.forget.ensures.same)

@@ -6,6 +6,7 @@ use Rattle.ax_core.proofs.FiresStand.{mail_left, not_owned, mark_left, timer_the
 use Rattle.ax_core.proofs.KeysStay.{keys_made}
 use Rattle.ax_core.proofs.IdleKeys.{fires_first}
 use Rattle.ax_core.proofs.Orders.{posts_fires}
+use Rattle.ax_core.proofs.Numbered.{fired_numbered}
 use Rattle.ax_core.proofs.controller.Controller.fire_next.Goals as goal
 
 pub fire-requires-clause-owner : goal.fire-requires-clause-owner
@@ -59,3 +60,6 @@ pub returns-clause-idle : goal.returns-clause-idle
 returns-clause-idle c =
     let first : first_of c.args.self.now.accounts.idle ≡ Some c.in_ok-key.key = sym c.in-Some.ensures.value ∙ sym (ap Some c.in_ok-key.ensures) in
     fires_first c.args.self.now c.fire.new.self c.in_ok-key.key c.in_ok-fired.fired c.first_idle.ensures.sound first c.in_ok-fired.ensures
+
+pub returns-clause-number : goal.returns-clause-number
+returns-clause-number c = fired_numbered c.args.self.now c.fire.new.self c.in_ok-key.key c.in_ok-fired.fired c.in_ok-fired.ensures

@@ -7,6 +7,7 @@ use Rattle.ax_core.specs.declared.settings.Settings.{Settings}
 use Rattle.ax_core.specs.Rooms.{AreTaken}
 use Rattle.ax_core.specs.Sound.{InRange, StandsFor}
 use Rattle.ax_core.proofs.Begins.{begins, fresh_sound}
+use Rattle.ax_core.proofs.Numbered.{nothing_numbered}
 use Rattle.ax_core.proofs.controller.Controller.new.Goals as goal
 
 pub begin-requires : goal.begin-requires
@@ -19,3 +20,6 @@ pub returns-clause-stands : goal.returns-clause-stands
 returns-clause-stands c =
     let ranges : InRange c.begin.result.settings = subst (λ (s : Settings). InRange s) (sym c.begin.ensures.settings) c.requires in
     subst (λ (p : Program). StandsFor c.begin.result (at_origin (first (shown_program p)))) c.begin.ensures.program (begins c.begin.result c.begin.ensures.new ranges)
+
+pub returns-clause-number : goal.returns-clause-number
+returns-clause-number c = nothing_numbered c.begin.result c.begin.ensures.new

@@ -1,6 +1,6 @@
 use Rattle.std.proofs.Common.{IfOk, refl, sym, subst}
 use Rattle.ax_core.proofs.Fronts.{IsStartOf}
-use Rattle.ax_core.proofs.MailRuns.{HasRun, IsTaken, start_may, reply_may, start_has_run, reply_has_run, run_sound, run_same, run_outs, run_event, run_keys, run_order, run_idle}
+use Rattle.ax_core.proofs.MailRuns.{HasRun, IsTaken, start_may, reply_may, start_has_run, reply_has_run, run_sound, run_same, run_outs, run_event, run_keys, run_order, run_idle, run_number}
 use Rattle.ax_core.proofs.controller.Controller.run_mail.Goals as goal
 
 pub run_start-requires : goal.run_start-requires
@@ -58,6 +58,7 @@ returns-in-Some-Start c =
       keys = run_keys c.args.self.now c.run_start.new.self c.run_start.result run;
       order = run_order c.args.self.now c.run_start.new.self c.run_start.result run;
       idle = run_idle c.args.self.now c.run_start.new.self c.run_start.result run;
+      number = run_number c.args.self.now c.run_start.new.self c.run_start.result run;
     }
 
 pub returns-in-Some-Fire : goal.returns-in-Some-Fire
@@ -80,6 +81,7 @@ returns-in-Some-Fire c =
       keys = run_keys c.args.self.now c.run_start-in-Some-Fire.new.self c.run_start-in-Some-Fire.result run;
       order = run_order c.args.self.now c.run_start-in-Some-Fire.new.self c.run_start-in-Some-Fire.result run;
       idle = run_idle c.args.self.now c.run_start-in-Some-Fire.new.self c.run_start-in-Some-Fire.result run;
+      number = run_number c.args.self.now c.run_start-in-Some-Fire.new.self c.run_start-in-Some-Fire.result run;
     }
 
 pub returns-in-Some-Reply : goal.returns-in-Some-Reply
@@ -102,4 +104,5 @@ returns-in-Some-Reply c =
       keys = run_keys c.args.self.now c.run_reply.new.self c.run_reply.result run;
       order = run_order c.args.self.now c.run_reply.new.self c.run_reply.result run;
       idle = run_idle c.args.self.now c.run_reply.new.self c.run_reply.result run;
+      number = run_number c.args.self.now c.run_reply.new.self c.run_reply.result run;
     }

@@ -25,6 +25,7 @@ returns c =
       free = c.make-id.ensures.free;
       made = subst (λ (e : ℕ). Has c.make-id.new.self c.make-id.result (λ h. h ≡ record { payload = c.args.r; epoch = e; number = h.number; count = 1 })) c.current-epoch.ensures c.make-id.ensures.made;
       number = c.make-id.ensures.number;
+      next = c.make-id.ensures.next;
       others = c.make-id.ensures.others;
       len = c.make-id.ensures.len;
       limit = c.make-id.ensures.limit;

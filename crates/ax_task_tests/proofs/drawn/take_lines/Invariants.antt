@@ -1,6 +1,6 @@
 use Rattle.ax_lang.specs.Shown.{shown_kinds}
 use Rattle.ax_plain.specs.Plain.{ThreadFits}
-use Rattle.ax_tests.proofs.drawn.take_lines.Given as goal
+use Rattle.ax_task_tests.proofs.drawn.take_lines.Given as goal
 
 abbrev pub invariant-loop-line : goal.invariant-loop-line
 invariant-loop-line g l = record {

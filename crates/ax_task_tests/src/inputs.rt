@@ -12,3 +12,12 @@ pub fn with_events(alloc: Global, program: &[u8], events: &[u8]) -> Result<Bytes
     input.extend_from_slice(events)?;
     Ok(input)
 }
+
+/// A text with line feeds in place of `;`.
+pub fn fed(alloc: Global, text: &str) -> Result<Bytes, NoMemory> {
+    let mut bytes = Bytes::new(alloc);
+    for byte in text.as_bytes() {
+        bytes.push(if *byte == b';' { b'\n' } else { *byte })?;
+    }
+    Ok(bytes)
+}

@@ -329,6 +329,13 @@ impl Clock {
         }
     }
 
+    fn rows(&mut self, count: u64) -> Result<(), Fail> {
+        for _row in 0..count {
+            self.row()?;
+        }
+        Ok(())
+    }
+
     fn events(&mut self, count: u64) -> Result<(), Fail> {
         for _event in 0..count {
             self.event()?;
@@ -337,14 +344,15 @@ impl Clock {
     }
 }
 
-/// Rows of four keys with two values, watermarks and barriers.
-pub fn drawn_events(alloc: Global, seed: u64, count: u64) -> Result<String, Fail> {
+/// Events of four keys: so many rows with two values, and then so many rows, watermarks and barriers.
+pub fn drawn_events(alloc: Global, seed: u64, rows: u64, count: u64) -> Result<String, Fail> {
     let mut clock = Clock {
         text: String::new(alloc),
         draws: Draws::new(seed),
         now: 0,
         barriers: 0,
     };
+    clock.rows(rows)?;
     clock.events(count)?;
     Ok(clock.text)
 }
@@ -357,15 +365,32 @@ fn push_numbers(text: &mut String, draws: &mut Draws, count: u64) -> Result<(), 
     Ok(())
 }
 
-/// How many rows may be in flight, how many requests a batch has at most, how many shards there are, and the numbers by which
-/// the batch that comes back next is chosen.
-pub fn drawn_way(alloc: Global, draws: &mut Draws) -> Result<String, Fail> {
+/// How many groups the keys fall into.
+pub fn drawn_groups(draws: &mut Draws) -> u16
+    ensures least { 1 ≤ result }
+    ensures most { result ≤ 32768 }
+{
+    match draws.below(5) {
+        0 => 1,
+        1 => 2,
+        2 => 10,
+        3 => 128,
+        _ => 32768,
+    }
+}
+
+/// How many rows may be in flight, how many requests a batch has at most, how many shards and groups of keys there are, and the
+/// numbers by which the batch that comes back next is chosen.
+pub fn drawn_way(
+    alloc: Global,
+    draws: &mut Draws,
+    in_flight: u32,
+    groups: u16,
+) -> Result<String, Fail> {
     let mut way = String::new(alloc);
-    way.push_str(draws.word("1 2 5 60", 4))?;
-    way.push(' ')?;
-    way.push_str(draws.word("1 3 1000", 3))?;
-    way.push(' ')?;
-    way.push_str(draws.word("1 3 8", 3))?;
+    let batch = draws.word("1 3 1000", 3);
+    let shards = draws.below(u64::from(groups.min(9))).wrapping_add(1);
+    write!(way, "{in_flight} {batch} {shards} {groups}")?;
     let count = draws.below(100);
     push_numbers(&mut way, draws, count)?;
     Ok(way)
