@@ -16,3 +16,4 @@ pub mod Admissions
 pub mod Order
 pub mod Requests
 pub mod Numbers
+pub mod Posted
