@@ -1,3 +1,4 @@
+pub mod Views
 pub mod Callbacks
 pub mod Calls
 pub mod Contexts

@@ -8,6 +8,7 @@ use Rattle.ax_execution.specs.ControlsAllowed.{AllowedOn}
 use Rattle.ax_core.specs.declared.effects.Ran.{Ran}
 use Rattle.ax_core.specs.declared.effects.Ran.TheVariants as ran
 use Rattle.ax_core.specs.declared.controller.Controller.{Controller}
+use Rattle.ax_core.specs.Views.{settings_of}
 use Rattle.ax_core.specs.Sound.{rules_of}
 use Rattle.ax_core.specs.Events.{event_of, number_of, IsOwnedBy}
 use Rattle.ax_core.specs.Order.{callbacks_in}
@@ -21,7 +22,7 @@ IsPosted a run (Some c) = Contains (callbacks_in a) (run c.number)
 pub record IsToRun (a : Controller) (m : MachineControl) (r : Ran) : Type 0 where
   pub key : Key
   pub owner : IsOwnedBy (number_of r) (m.controls key).owner
-  pub may : AllowedOn (rules_of a.settings) (event_of key r) m
+  pub may : AllowedOn (rules_of (settings_of a)) (event_of key r) m
 
 abbrev pub same_callback : Ran → Ran → Bool
 same_callback (ran.Start n) (ran.Start k) = nat_eq n k
