@@ -46,14 +46,14 @@ held_as p ms s key id h there (Some j) (Some c) e x =
 true_false : true ≡ false → ⊥
 true_false e = cc e
 
-none_is : {X : Type 0} (o : Option X) → is_none o ≡ true → o ≡ None
+pub none_is : {X : Type 0} (o : Option X) → is_none o ≡ true → o ≡ None
 none_is None e = refl
 none_is (Some x) e = absurd (true_false (sym e))
 
 some_is : {X : Type 0} (x y : X) → Some x ≡ Some y → x ≡ y
 some_is x y e = cc
 
-owner_is : (id : Id) (o : Option Id) → is_owner id o ≡ true → o ≡ Some id
+pub owner_is : (id : Id) (o : Option Id) → is_owner id o ≡ true → o ≡ Some id
 owner_is id None e = absurd (true_false (sym e))
 owner_is id (Some j) e = ap (λ (i : Id). Some i) (same_is j id e)
 

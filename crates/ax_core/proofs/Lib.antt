@@ -30,6 +30,8 @@ pub mod LeaveLemmas
 pub mod MarkLemmas
 pub mod Serves
 pub mod Unserved
+pub mod Once
+pub mod Posted
 pub mod StartLemmas
 pub mod TimerLemmas
 pub mod Marking

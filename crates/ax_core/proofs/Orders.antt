@@ -41,7 +41,7 @@ id_of (mail.Fire id) = id
 id_of (mail.Reply id slot answer) = id
 
 -- what a mail does for the context that it names
-abbrev Counts : Mail → List Mail → Type 0
+abbrev pub Counts : Mail → List Mail → Type 0
 Counts (mail.Start id) ms = 1 ≤ started_as id ms
 Counts (mail.Fire id) ms = 1 ≤ started_as id ms
 Counts (mail.Reply id slot answer) ms = 1 ≤ answered_as id slot ms
@@ -59,7 +59,7 @@ counts_behind (mail.Start id) x ms h = omega (arith, h)
 counts_behind (mail.Fire id) x ms h = omega (arith, h)
 counts_behind (mail.Reply id slot answer) x ms h = omega (arith, h)
 
-counts_there : (m : Mail) (ms : List Mail) → Contains ms m → Counts m ms
+pub counts_there : (m : Mail) (ms : List Mail) → Contains ms m → Counts m ms
 counts_there m [] c = absurd (contains_none m c)
 counts_there m (x ∷ ms) c = elim (first_or x ms m c) [
   | inl e ↦ subst (λ (y : Mail). Counts m (y ∷ ms)) (sym e) (counts_here m ms)

@@ -1,6 +1,6 @@
 -- The requests in queues and out of shards are those that may be served, each once.
 use Rattle.std.proofs.Common.{◌≡◌, ℕ, zero, suc, ◌+◌, ◌≤◌, nat_eq, Bool, true, false, ◌&&◌, List, [], ◌∷◌, ◌++◌, map, get_or, Option, Some, None, refl, sym, ap, ap₂, ◌∙◌, subst, inl, inr, Contains, eq-eqb, eqb-true, arith}
-use Rattle.std.specs.List.{IsDistinct, AllByRecursion}
+use Rattle.std.specs.List.{IsDistinct}
 use Rattle.std.proofs.lemmas.Bool.{cond-false}
 use Rattle.std.proofs.lemmas.List.Elements.{Contains-append_left, Contains-append_right, Contains-append_cases}
 use Rattle.ax_text.specs.declared.vocabulary.Request.{Request}
@@ -39,13 +39,10 @@ use Rattle.ax_core.proofs.Flows.{same_is}
 use Rattle.ax_core.proofs.Forgotten.{in_outs_there}
 use Rattle.ax_core.proofs.Orders.{item_live}
 use Rattle.ax_core.proofs.KeysStay.{out_live}
+use Rattle.ax_core.proofs.Once.{at_most, times, distinct_where, times_there}
 use Rattle.ax_core.proofs.Owners.{RunsAt, runs_at, unanswered, names_itself, in_queues_there}
 use Rattle.ax_core.proofs.Replaced.{contains_none, contains_behind, contains_map, IsMapped, is_mapped}
 use Rattle.ax_core.proofs.Serves.{by_cases, has_request, WaitsAt, waits_there}
-
-at_most : (b : Bool) → one_if b ≤ 1
-at_most true = omega arith
-at_most false = omega arith
 
 true_false : true ≡ false → ⊥
 true_false e = cc e
@@ -84,7 +81,7 @@ some_at f (xs ∷ xss) some = of (f xs) refl (λ more. some_at f xss more)
     of zero e go = let rest : IsSomewhere f xss = go (omega (arith, some, e)) in record { place = suc rest.place; some = rest.some }
     of (suc n) e go = record { place = 0; some = omega (arith, e) }
 
-names_both : (id : Id) (slot : ℕ) (i : Id) (s : ℕ) → names_request id slot i s ≡ true → (i ≡ id) × (s ≡ slot)
+pub names_both : (id : Id) (slot : ℕ) (i : Id) (s : ℕ) → names_request id slot i s ≡ true → (i ≡ id) × (s ≡ slot)
 names_both id slot i s e = of (same_id i id) (nat_eq s slot) refl refl e
   where
     of : (b c : Bool) → same_id i id ≡ b → nat_eq s slot ≡ c → (b && c) ≡ true → (i ≡ id) × (s ≡ slot)
@@ -291,7 +288,7 @@ module _ (a : Controller) (m : MachineControl) (flow : IsFlow a) (x : StandsFor 
       of (Some h) f s = record { id = id; held = h; there = f; number = s.number ∙ e; of_key = s.job.key }
 
   module _ (differ : NumbersDiffer a.contexts) where
-    one_key : (one two : Key) (n : ℕ) → IsOwnedBy n (m.controls one).owner → IsOwnedBy n (m.controls two).owner → one ≡ two
+    pub one_key : (one two : Key) (n : ℕ) → IsOwnedBy n (m.controls one).owner → IsOwnedBy n (m.controls two).owner → one ≡ two
     one_key one two n e f =
         let g : OwnedBy one n = owned_by one n (owner_of a.accounts one) (m.controls one).owner (x.stands.keys one).owner e in
         let h : OwnedBy two n = owned_by two n (owner_of a.accounts two) (m.controls two).owner (x.stands.keys two).owner f in
@@ -312,31 +309,12 @@ module _ (a : Controller) (m : MachineControl) (flow : IsFlow a) (x : StandsFor 
 
 -- ---- each stands once
 
-abbrev times : Asked → List Asked → ℕ
-times r [] = 0
-times r (q ∷ qs) = one_if (same_asked r q) + times r qs
-
-times_append : (r : Asked) (xs ys : List Asked) → times r (xs ++ ys) ≡ times r xs + times r ys
+times_append : (r : Asked) (xs ys : List Asked) → times same_asked r (xs ++ ys) ≡ times same_asked r xs + times same_asked r ys
 times_append r [] ys = omega arith
 times_append r (x ∷ xs) ys = omega (arith, times_append r xs ys)
 
 same_itself : (r : Asked) → same_asked r r ≡ true
 same_itself r = rw (eq-eqb r.context r.context refl) (eq-eqb r.slot r.slot refl)
-
-none_same : (r : Asked) (xs : List Asked) → times r xs ≡ 0 → AllByRecursion (λ q. same_asked r q ≡ false) xs
-none_same r [] e = tt
-none_same r (x ∷ xs) e = (of (same_asked r x) (omega (arith, e)), none_same r xs (omega (arith, e)))
-  where
-    of : (b : Bool) → one_if b ≡ 0 → b ≡ false
-    of true z = absurd (omega (arith, z))
-    of false z = refl
-
-distinct_where : (xs : List Asked) → ((r : Asked) → times r xs ≤ 1) → IsDistinct same_asked xs
-unfolding IsDistinct
-distinct_where [] h = tt
-distinct_where (x ∷ xs) h =
-    let itself : one_if (same_asked x x) ≡ 1 = ap one_if (same_itself x) in
-    (none_same x xs (omega (arith, itself, h x)), distinct_where xs (λ r. omega (arith, h r)))
 
 asked_both : (r q : Asked) → same_asked r q ≡ true → (r.context ≡ q.context) × (r.slot ≡ q.slot)
 asked_both r q e = of (nat_eq r.context q.context) (nat_eq r.slot q.slot) refl refl e
@@ -346,15 +324,8 @@ asked_both r q e = of (nat_eq r.context q.context) (nat_eq r.slot q.slot) refl r
     of true false x y e = absurd (true_false (sym e))
     of false c x y e = absurd (true_false (sym e))
 
--- what is counted stands there
-times_there : (r : Asked) (xs : List Asked) → 1 ≤ times r xs → Contains xs r
-times_there r [] some = absurd (omega (arith, some))
-times_there r (x ∷ xs) some = by_cases (same_asked r x)
-    (λ e. (0, omega arith, sym (same_is_one r x e)))
-    (λ e. let none : one_if (same_asked r x) ≡ 0 = ap one_if e in contains_behind x xs r (times_there r xs (omega (arith, some, none))))
-  where
-    same_is_one : (r q : Asked) → same_asked r q ≡ true → r ≡ q
-    same_is_one r q e = ap₂ (λ (n s : ℕ). record { context = n; slot = s }) (asked_both r q e).0 (asked_both r q e).1
+same_is_one : (r q : Asked) → same_asked r q ≡ true → r ≡ q
+same_is_one r q e = ap₂ (λ (n s : ℕ). record { context = n; slot = s }) (asked_both r q e).0 (asked_both r q e).1
 
 -- what so many of some lists count, the first first
 abbrev first_total : {X : Type 0} → (List X → ℕ) → List (List X) → ℕ → ℕ
@@ -420,15 +391,15 @@ module _ (a : Controller) (flow : IsFlow a) (differ : NumbersDiffer a.contexts) 
         of None f e = absurd (live f)
         of (Some h) f e = differ i it.id h it.held f it.there (e ∙ sym it.number)
 
-    times_queued : (is : List Item) → ((i : Item) → Contains is i → at a.contexts i.id ≡ None → ⊥) → times r (map (asked_by a) is) ≤ queued_as it.id r.slot is
+    times_queued : (is : List Item) → ((i : Item) → Contains is i → at a.contexts i.id ≡ None → ⊥) → times same_asked r (map (asked_by a) is) ≤ queued_as it.id r.slot is
     times_queued [] live = omega arith
     times_queued (i ∷ is) live = omega (arith, one_named i.id i.slot (live i (0, omega arith, refl)), times_queued is (λ j c. live j (contains_behind i is j c)))
 
-    times_out : (ns : List Name) → ((n : Name) → Contains ns n → at a.contexts n.id ≡ None → ⊥) → times r (map (sent_by a) ns) ≤ named_as it.id r.slot ns
+    times_out : (ns : List Name) → ((n : Name) → Contains ns n → at a.contexts n.id ≡ None → ⊥) → times same_asked r (map (sent_by a) ns) ≤ named_as it.id r.slot ns
     times_out [] live = omega arith
     times_out (n ∷ ns) live = omega (arith, one_named n.id n.slot (live n (0, omega arith, refl)), times_out ns (λ o c. live o (contains_behind n ns o c)))
 
-    times_in : (shard : ℕ) → times r (requests_in a shard) ≤ queued_as it.id r.slot (queue_of a.buffer shard) + named_as it.id r.slot (out_of a shard)
+    times_in : (shard : ℕ) → times same_asked r (requests_in a shard) ≤ queued_as it.id r.slot (queue_of a.buffer shard) + named_as it.id r.slot (out_of a shard)
     times_in shard = omega (
       arith,
       times_append r (queue_in a shard) (sent_in a shard),
@@ -436,11 +407,11 @@ module _ (a : Controller) (flow : IsFlow a) (differ : NumbersDiffer a.contexts) 
       times_out (out_of a shard) (λ n c. out_live a shard (at a.contexts n.id) (flow.out shard n c)),
     )
 
-    times_below : (n : ℕ) → times r (requests_below a n) ≤ first_total (queued_as it.id r.slot) a.buffer.queues n + first_total (named_as it.id r.slot) a.outs.items n
+    times_below : (n : ℕ) → times same_asked r (requests_below a n) ≤ first_total (queued_as it.id r.slot) a.buffer.queues n + first_total (named_as it.id r.slot) a.outs.items n
     times_below zero = omega arith
     times_below (suc n) = omega (arith, times_append r (requests_in a n) (requests_below a n), times_in n, times_below n)
 
-    times_all : times r (all_requests a) ≤ 1
+    times_all : times same_asked r (all_requests a) ≤ 1
     times_all = omega (
       arith,
       times_below a.settings.shards,
@@ -450,12 +421,12 @@ module _ (a : Controller) (flow : IsFlow a) (differ : NumbersDiffer a.contexts) 
       at_most (waits_for (waits_at a.program (at a.contexts it.id)) r.slot),
     )
 
-  times_once : times r (all_requests a) ≤ 1
-  times_once = of (times r (all_requests a)) refl
+  times_once : times same_asked r (all_requests a) ≤ 1
+  times_once = of (times same_asked r (all_requests a)) refl
     where
-      of : (n : ℕ) → times r (all_requests a) ≡ n → times r (all_requests a) ≤ 1
+      of : (n : ℕ) → times same_asked r (all_requests a) ≡ n → times same_asked r (all_requests a) ≤ 1
       of zero e = omega (arith, e)
-      of (suc n) e = times_all (numbered_below a.settings.shards (times_there r (all_requests a) (omega (arith, e))))
+      of (suc n) e = times_all (numbered_below a.settings.shards (times_there same_asked same_is_one r (all_requests a) (omega (arith, e))))
 
 pub requests_once : (a : Controller) → IsFlow a → NumbersDiffer a.contexts → IsDistinct same_asked (all_requests a)
-requests_once a flow differ = distinct_where (all_requests a) (λ r. times_once a flow differ r)
+requests_once a flow differ = distinct_where same_asked same_itself (all_requests a) (λ r. times_once a flow differ r)

@@ -8,6 +8,7 @@ use Rattle.ax_mailbox.specs.declared.mail.Mail.{Mail}
 use Rattle.ax_mailbox.specs.declared.mail.Mail.TheVariants as mail
 use Rattle.ax_core.specs.declared.record.Name.{Name}
 use Rattle.ax_core.specs.declared.controller.Controller.{Controller}
+use Rattle.ax_core.specs.Views.{outs_of}
 use Rattle.ax_core.specs.Flow.{named_as, in_outs, out_of}
 use Rattle.ax_core.specs.Events.{names_of}
 
@@ -22,7 +23,7 @@ mails_in rs = map (λ r. mail.Reply r.id r.slot r.answer) rs
 
 -- the requests that these replies name are taken from those that are out; what was before them and behind them stays, in order
 abbrev pub OthersOut : Controller → Controller → List Reply → Type 0
-OthersOut old new rs = (shard : ℕ) (before behind : List Name) → out_of old shard ≡ before ++ (names_of rs ++ behind) → new.outs.items ≡ slice_set old.outs.items shard (before ++ behind)
+OthersOut old new rs = (shard : ℕ) (before behind : List Name) → out_of old shard ≡ before ++ (names_of rs ++ behind) → (outs_of new).items ≡ slice_set (outs_of old).items shard (before ++ behind)
 
 -- the requests that these replies name are out no longer, and nothing else changes
 pub record Forgets (old new : Controller) (rs : List Reply) : Type 0 where

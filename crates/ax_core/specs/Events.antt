@@ -21,35 +21,36 @@ use Rattle.ax_core.specs.declared.effects.Ran.{Ran}
 use Rattle.ax_core.specs.declared.effects.Ran.TheVariants as ran
 use Rattle.ax_core.specs.declared.effects.Effects.{Effects}
 use Rattle.ax_core.specs.declared.controller.Controller.{Controller}
+use Rattle.ax_core.specs.Views.{contexts_of, program_of, settings_of}
 use Rattle.ax_core.specs.Epochs.{closing_of}
 use Rattle.ax_core.specs.Flow.{shard_of, out_of}
 use Rattle.ax_core.specs.Sound.{rules_of, StandsFor}
 
 -- the program and the settings stay
 pub record SameRules (old new : Controller) : Type 0 where
-  pub program : new.program ≡ old.program
-  pub settings : new.settings ≡ old.settings
+  pub program : program_of new ≡ program_of old
+  pub settings : settings_of new ≡ settings_of old
 
 -- one event: it is allowed, and the controller stands for what it leaves
 pub record Makes (old new : Controller) (e : Happening) (m : MachineControl) : Type 0 where
-  pub allowed : AllowedOn (rules_of old.settings) e m
-  pub stands : StandsFor new (happens_on (shown_program old.program) e None m)
+  pub allowed : AllowedOn (rules_of (settings_of old)) e m
+  pub stands : StandsFor new (happens_on (shown_program (program_of old)) e None m)
 
 -- a row may come in, as far as its number doesn't matter
 pub record MayAdmitOn (a : Controller) (m : MachineControl) : Type 0 where
-  pub is_open : IsOpenOn (rules_of a.settings) m
-  pub room : in_flight_on m < a.settings.in_flight
+  pub is_open : IsOpenOn (rules_of (settings_of a)) m
+  pub room : in_flight_on m < (settings_of a).in_flight
   pub busy : NoneIsIdleOn m
 
 -- some key is idle, and there is room for one more context
 pub record MayFireOn (a : Controller) (m : MachineControl) : Type 0 where
   pub key : Key
   pub idle : is_idle_on (m.controls key) ≡ true
-  pub room : in_flight_on m < a.settings.in_flight
+  pub room : in_flight_on m < (settings_of a).in_flight
 
 -- the handler of a key's owner may begin, or be given the answer at some slot
 abbrev pub MayCall : Controller → MachineControl → Key → Type 0
-MayCall a m key = AllowedOn (rules_of a.settings) (Start key) m ⊎ ((slot : ℕ) × AllowedOn (rules_of a.settings) (Deliver key slot) m)
+MayCall a m key = AllowedOn (rules_of (settings_of a)) (Start key) m ⊎ ((slot : ℕ) × AllowedOn (rules_of (settings_of a)) (Deliver key slot) m)
 
 -- that of some key
 pub record MayCallOn (a : Controller) (m : MachineControl) : Type 0 where
@@ -111,10 +112,10 @@ FiresNext old new (Some f) m = (m.must ≡ Some f.key) × Fires old new f m
 -- a callback ran: its event is allowed, its lines are written, and a context is given up exactly where told
 pub record Runs (old new : Controller) (f : Effects) (m : MachineControl) : Type 0 where
   pub owner : IsOwnedBy (number_of f.ran) (m.controls f.key).owner
-  pub allowed : AllowedOn (rules_of old.settings) (event_of f.key f.ran) m
-  pub lines : (outcome_on (shown_program old.program) (event_of f.key f.ran) m).lines ≡ says f.key f.outs
-  pub gone : (outcome_on (shown_program old.program) (event_of f.key f.ran) m).gone ≡ f.gone
-  pub next : FiresNext old new f.fired (happens_on (shown_program old.program) (event_of f.key f.ran) None m)
+  pub allowed : AllowedOn (rules_of (settings_of old)) (event_of f.key f.ran) m
+  pub lines : (outcome_on (shown_program (program_of old)) (event_of f.key f.ran) m).lines ≡ says f.key f.outs
+  pub gone : (outcome_on (shown_program (program_of old)) (event_of f.key f.ran) m).gone ≡ f.gone
+  pub next : FiresNext old new f.fired (happens_on (shown_program (program_of old)) (event_of f.key f.ran) None m)
 
 -- a request of the batch waits at its key, unserved, and its key is of the batch's shard
 abbrev pub StageAsksIt : Item → Stage → Type 0
@@ -126,7 +127,7 @@ OwnerAsks i None = ⊥
 OwnerAsks i (Some c) = StageAsksIt i c.stage
 
 pub record Asks (a : Controller) (place : ℕ) (m : MachineControl) (i : Item) : Type 0 where
-  pub shard : shard_of a.settings i.key ≡ place
+  pub shard : shard_of (settings_of a) i.key ≡ place
   pub asks : OwnerAsks i (m.controls i.key).owner
 
 abbrev pub AsksAll : Controller → ℕ → MachineControl → List Item → Type 0
@@ -158,19 +159,19 @@ key_in (Some h) = h.payload.facts.key
 
 -- each request that is out is of the key that it was of
 abbrev pub KeysStay : Controller → Controller → Type 0
-KeysStay old new = (shard : ℕ) (n : Name) → Contains (out_of old shard) n → key_in (at new.contexts n.id) ≡ key_in (at old.contexts n.id)
+KeysStay old new = (shard : ℕ) (n : Name) → Contains (out_of old shard) n → key_in (at (contexts_of new) n.id) ≡ key_in (at (contexts_of old) n.id)
 
 -- each of these requests is of a context of its key
 abbrev pub OfKeys : Controller → List Item → Type 0
 OfKeys a [] = Unit {0}
-OfKeys a (i ∷ is) = (key_in (at a.contexts i.id) ≡ i.key) × OfKeys a is
+OfKeys a (i ∷ is) = (key_in (at (contexts_of a) i.id) ≡ i.key) × OfKeys a is
 
 -- each reply serves what it names
 abbrev pub serves : Controller → List Reply → List Answered
 serves a [] = []
-serves a (r ∷ rs) = record { event = Serve (key_in (at a.contexts r.id)) r.slot; answer = Some r.answer } ∷ serves a rs
+serves a (r ∷ rs) = record { event = Serve (key_in (at (contexts_of a) r.id)) r.slot; answer = Some r.answer } ∷ serves a rs
 
 -- the events of a delivery, one for each reply
 pub record ServesAll (old new : Controller) (rs : List Reply) (m : MachineControl) : Type 0 where
-  pub allowed : IsRunOn (rules_of old.settings) (shown_program old.program) (serves old rs) m
-  pub stands : StandsFor new (after_all_on (shown_program old.program) (serves old rs) m)
+  pub allowed : IsRunOn (rules_of (settings_of old)) (shown_program (program_of old)) (serves old rs) m
+  pub stands : StandsFor new (after_all_on (shown_program (program_of old)) (serves old rs) m)

@@ -1,3 +1,4 @@
+pub mod Views
 pub mod Callbacks
 pub mod Calls
 pub mod Contexts
@@ -16,3 +17,4 @@ pub mod Admissions
 pub mod Order
 pub mod Requests
 pub mod Numbers
+pub mod Posted

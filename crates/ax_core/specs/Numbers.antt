@@ -3,17 +3,18 @@ use Rattle.std.specs.Prelude.{◌≡◌, ◌⊎◌, ℕ, zero, suc, List, [], �
 use Rattle.ax_context.specs.Slots.{ahead, IsTaken, IsFirstFree}
 use Rattle.ax_core.specs.declared.effects.Fired.{Fired}
 use Rattle.ax_core.specs.declared.controller.Controller.{Controller}
+use Rattle.ax_core.specs.Views.{contexts_of}
 
 -- the next number, and whether a context that is in flight has a number
 abbrev pub next_number : Controller → ℕ
-next_number a = a.contexts.next
+next_number a = (contexts_of a).next
 
 abbrev pub IsUsed : Controller → ℕ → Type 0
-IsUsed a n = IsTaken a.contexts n
+IsUsed a n = IsTaken (contexts_of a) n
 
 -- a context was made with the next number that no context in flight has, and the next is one more
 pub record IsNumbered (old new : Controller) (n : ℕ) : Type 0 where
-  pub number : IsFirstFree old.contexts n
+  pub number : IsFirstFree (contexts_of old) n
   pub next : next_number new ≡ ahead n 1
   pub used : (k : ℕ) → IsUsed new k → (k ≡ n) ⊎ IsUsed old k
 

@@ -27,6 +27,7 @@ use Rattle.ax_core.specs.declared.effects.Ran.{Ran}
 use Rattle.ax_core.specs.declared.effects.Ran.TheVariants as ran
 use Rattle.ax_core.specs.declared.effects.Effects.{Effects}
 use Rattle.ax_core.specs.declared.controller.Controller.{Controller}
+use Rattle.ax_core.specs.Views.{accounts_of, buffer_of, contexts_of, mails_of, program_of, settings_of}
 use Rattle.ax_core.specs.Flow.{shard_of, out_of}
 use Rattle.ax_core.specs.Events.{event_of, number_of}
 
@@ -36,7 +37,7 @@ number_in None = 0
 number_in (Some h) = h.number
 
 abbrev pub number_at : Controller → Id → ℕ
-number_at a id = number_in (at a.contexts id)
+number_at a id = number_in (at (contexts_of a) id)
 
 -- a request, by the number of the context that asked and the slot that waits
 pub record Asked : Type 0 where
@@ -48,7 +49,7 @@ abbrev pub asked_by : Controller → Item → Asked
 asked_by a i = record { context = number_at a i.id; slot = i.slot }
 
 abbrev pub queue_in : Controller → ℕ → List Asked
-queue_in a shard = map (asked_by a) (queue_of a.buffer shard)
+queue_in a shard = map (asked_by a) (queue_of (buffer_of a) shard)
 
 -- the callbacks that are to run, in order
 abbrev pub callback_by : Controller → Mail → Ran
@@ -57,7 +58,7 @@ callback_by a (mail.Fire id) = ran.Start (number_at a id)
 callback_by a (mail.Reply id slot answer) = ran.Reply (number_at a id) slot
 
 abbrev pub callbacks_in : Controller → List Ran
-callbacks_in a = map (callback_by a) a.mails.mails
+callbacks_in a = map (callback_by a) (mails_of a).mails
 
 -- the callbacks that replies lead to
 abbrev pub replies_in : Controller → List Reply → List Ran
@@ -112,15 +113,15 @@ firing_begins (Some f) = ran.Start f.context ∷ []
 pub record RunsFirst (old new : Controller) (f : Effects) (m : MachineControl) : Type 0 where
   pub rest : List Ran
   pub first : callbacks_in old ≡ f.ran ∷ rest
-  pub next : callbacks_in new ≡ rest ++ (owner_begins ((happens_on (shown_program old.program) (event_of f.key f.ran) None m).controls f.key).owner ++ firing_begins f.fired)
-  pub queue : queue_in new (shard_of old.settings f.key) ≡ queue_in old (shard_of old.settings f.key)
-      ++ asks_of (number_of f.ran) (outcome_on (shown_program old.program) (event_of f.key f.ran) m).asks
-  pub others : (other : ℕ) → other ≢ shard_of old.settings f.key → queue_in new other ≡ queue_in old other
+  pub next : callbacks_in new ≡ rest ++ (owner_begins ((happens_on (shown_program (program_of old)) (event_of f.key f.ran) None m).controls f.key).owner ++ firing_begins f.fired)
+  pub queue : queue_in new (shard_of (settings_of old) f.key) ≡ queue_in old (shard_of (settings_of old) f.key)
+      ++ asks_of (number_of f.ran) (outcome_on (shown_program (program_of old)) (event_of f.key f.ran) m).asks
+  pub others : (other : ℕ) → other ≢ shard_of (settings_of old) f.key → queue_in new other ≡ queue_in old other
   pub numbers : NumbersStay old new
 
 -- the keys that are idle, the one that has been idle longest first
 abbrev pub idle_in : Controller → List Key
-idle_in a = a.accounts.idle
+idle_in a = (accounts_of a).idle
 
 -- keys become idle, the last of all: those that are free and have a timer that is due at a watermark, in rising order of keys
 pub record BecomeIdle (old new : Controller) (w : ℤ) (m : MachineControl) : Type 0 where

@@ -8,6 +8,7 @@ use Rattle.ax_execution.specs.MachineControls.{MachineControl}
 use Rattle.ax_execution.specs.ControlsAllowed.{AllowedOn}
 use Rattle.ax_core.specs.declared.record.Name.{Name}
 use Rattle.ax_core.specs.declared.controller.Controller.{Controller}
+use Rattle.ax_core.specs.Views.{settings_of}
 use Rattle.ax_core.specs.Flow.{shard_of, out_of}
 use Rattle.ax_core.specs.Sound.{rules_of}
 use Rattle.ax_core.specs.Events.{IsOwnedBy}
@@ -30,7 +31,7 @@ requests_below a zero = []
 requests_below a (suc n) = requests_in a n ++ requests_below a n
 
 abbrev pub all_requests : Controller → List Asked
-all_requests a = requests_below a a.settings.shards
+all_requests a = requests_below a (settings_of a).shards
 
 abbrev pub same_asked : Asked → Asked → Bool
 same_asked r q = nat_eq r.context q.context && nat_eq r.slot q.slot
@@ -38,11 +39,11 @@ same_asked r q = nat_eq r.context q.context && nat_eq r.slot q.slot
 -- what a key's owner asked at a slot waits in the queue of the key's shard, or is out of it
 abbrev pub IsQueuedOrOut : Controller → Key → ℕ → Option Context → Type 0
 IsQueuedOrOut a key slot None = ⊥
-IsQueuedOrOut a key slot (Some c) = Contains (requests_in a (shard_of a.settings key)) (record { context = c.number; slot = slot })
+IsQueuedOrOut a key slot (Some c) = Contains (requests_in a (shard_of (settings_of a) key)) (record { context = c.number; slot = slot })
 
 -- a request is one of the owner of a key of this shard, and may be served
 pub record IsUnserved (a : Controller) (m : MachineControl) (place : ℕ) (r : Asked) : Type 0 where
   pub key : Key
-  pub shard : shard_of a.settings key ≡ place
+  pub shard : shard_of (settings_of a) key ≡ place
   pub owner : IsOwnedBy r.context (m.controls key).owner
-  pub may : AllowedOn (rules_of a.settings) (Serve key r.slot) m
+  pub may : AllowedOn (rules_of (settings_of a)) (Serve key r.slot) m

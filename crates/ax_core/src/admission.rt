@@ -6,6 +6,7 @@ ghost use Rattle.ax_time.specs.Epochs.{current_of, count_of, IsOpen};
 ghost use Rattle.ax_execution.specs.Machine.{Admit};
 ghost use Rattle.ax_execution.specs.MachineControls.{MachineControl};
 ghost use Rattle.ax_execution.specs.OwedChanges.{is_free_on};
+ghost use Rattle.ax_core.specs.Views.{outs_of};
 ghost use Rattle.ax_core.specs.May.{may_admit};
 ghost use Rattle.ax_core.specs.Sound.{StandsFor, IsSound};
 ghost use Rattle.ax_core.specs.Events.{SameRules, KeysStay, Makes, MayAdmitOn};
@@ -53,7 +54,7 @@ impl Controller {
         requires may { may_admit self.old ≡ true }
         ensures sound { OnOk result (IsSound self.new) }
         ensures same { OnOk result (SameRules self.old self.new) }
-        ensures outs { OnOk result (self.new.outs ≡ self.old.outs) }
+        ensures outs { OnOk result (outs_of self.new ≡ outs_of self.old) }
         ensures keys { OnOk result (KeysStay self.old self.new) }
         ensures order { IfOk result (λ n. (m : MachineControl) → StandsFor self.old m → Posts self.old self.new (begins_where (is_free_on (m.controls key)) n)) }
         ensures idle { OnOk result (idle_in self.new ≡ idle_in self.old) }

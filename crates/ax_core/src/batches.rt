@@ -5,6 +5,7 @@ ghost use Rattle.ax_text.specs.Suits.{fits_in};
 ghost use Rattle.ax_lang.specs.Shown.{shown_kinds};
 ghost use Rattle.ax_buffer.specs.Buffer.{queue_of};
 ghost use Rattle.ax_execution.specs.MachineControls.{MachineControl};
+ghost use Rattle.ax_core.specs.Views.{buffer_of, outs_of, program_of, settings_of};
 ghost use Rattle.ax_core.specs.Flow.{out_of};
 ghost use Rattle.ax_core.specs.Sound.{StandsFor, IsSound};
 ghost use Rattle.ax_core.specs.Events.{SameRules, AsksAll, AreOut, IsBatchOut, ServesAll, names_in, KeysStay, OfKeys};
@@ -25,8 +26,8 @@ impl Controller {
     /// How many requests wait in a shard's queue. Condition: the shard is below the settings' `shards`.
     pub fn active_len(&self, shard: u16) -> u32
         requires sound { IsSound self.now }
-        requires shard { shard < self.now.settings.shards }
-        ensures { result ≡ length (queue_of self.now.buffer shard) }
+        requires shard { shard < (settings_of self.now).shards }
+        ensures { result ≡ length (queue_of (buffer_of self.now) shard) }
     {
         self.buffer.active_len(shard)
     }
@@ -37,17 +38,17 @@ impl Controller {
     /// Conditions: the shard is below the settings' `shards`; `active_len(shard)` and `max` are above 0.
     pub fn batch_for(&mut self, shard: u16, max: u32) -> Result<Batch, NoMemory>
         requires sound { IsSound self.old }
-        requires shard { shard < self.old.settings.shards }
-        requires some { 0 < length (queue_of self.old.buffer shard) }
+        requires shard { shard < (settings_of self.old).shards }
+        requires some { 0 < length (queue_of (buffer_of self.old) shard) }
         requires most { 0 < max }
         ensures sound { OnOk result (IsSound self.new) }
         ensures same { OnOk result (SameRules self.old self.new) }
-        ensures batch { IfOk result (λ batch. batch ≡ take max (queue_of self.old.buffer shard)) }
+        ensures batch { IfOk result (λ batch. batch ≡ take max (queue_of (buffer_of self.old) shard)) }
         ensures stands { OnOk result ((m : MachineControl) → StandsFor self.old m → StandsFor self.new m) }
         ensures asks { IfOk result (λ batch. (m : MachineControl) → StandsFor self.old m → AsksAll self.old shard m batch) }
-        ensures fit { IfOk result (λ batch. All (λ i. fits_in (shown_kinds self.old.program) i.request ≡ true) batch) }
+        ensures fit { IfOk result (λ batch. All (λ i. fits_in (shown_kinds (program_of self.old)) i.request ≡ true) batch) }
         ensures out { IfOk result (λ batch. AreOut self.new shard batch) }
-        ensures outs { IfOk result (λ batch. self.new.outs.items ≡ slice_set self.old.outs.items shard (out_of self.old shard ++ names_in batch)) }
+        ensures outs { IfOk result (λ batch. (outs_of self.new).items ≡ slice_set (outs_of self.old).items shard (out_of self.old shard ++ names_in batch)) }
         ensures keys_of { IfOk result (λ batch. OfKeys self.new batch) }
         ensures keys { OnOk result (KeysStay self.old self.new) }
         ensures order { IfOk result (λ batch. SendsFirst self.old self.new shard max batch) }

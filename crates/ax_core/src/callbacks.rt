@@ -9,6 +9,7 @@ ghost use Rattle.ax_account.specs.Queues.{has_key};
 ghost use Rattle.ax_account.specs.Accounts.{waiting_of, owner_of, AreSound, Changes};
 ghost use Rattle.ax_execution.specs.Contexts as times;
 ghost use Rattle.ax_execution.specs.MachineControls.{MachineControl};
+ghost use Rattle.ax_core.specs.Views.{outs_of};
 ghost use Rattle.ax_core.specs.declared.effects.Ran.TheVariants as ran;
 ghost use Rattle.ax_core.specs.May.{has_mail};
 ghost use Rattle.ax_core.specs.Sound.{StandsFor, IsSound};
@@ -60,7 +61,7 @@ impl Controller {
         requires mail { has_mail self.old ≡ true }
         ensures sound { OnOk result (IsSound self.new) }
         ensures same { OnOk result (SameRules self.old self.new) }
-        ensures outs { OnOk result (self.new.outs ≡ self.old.outs) }
+        ensures outs { OnOk result (outs_of self.new ≡ outs_of self.old) }
         ensures number { IfOk result (λ f. NumbersBehind self.old self.new f.fired) }
         ensures event { IfOk result (λ f. (m : MachineControl) → StandsFor self.old m → Runs self.old self.new f m) }
         ensures keys { OnOk result (KeysStay self.old self.new) }

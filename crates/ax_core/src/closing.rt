@@ -5,6 +5,7 @@ ghost use Rattle.ax_account.specs.Accounts.{part_of};
 ghost use Rattle.ax_execution.specs.Machine.{Close, ByWatermark, ByBarrier};
 ghost use Rattle.ax_execution.specs.MachineControls.{MachineControl};
 ghost use Rattle.ax_execution.specs.ControlsAllowed.{IsOpenOn};
+ghost use Rattle.ax_core.specs.Views.{outs_of, settings_of};
 ghost use Rattle.ax_core.specs.May.{may_close, IsNext};
 ghost use Rattle.ax_core.specs.Epochs.{closing_of};
 ghost use Rattle.ax_core.specs.Closings.{barrier_left, Marks, MarksIf, MarksAll, books, current_count, every, is_free_at};
@@ -26,7 +27,7 @@ impl Controller {
     /// Whether an epoch may be closed: no barrier waits to be sent, and in serial mode no marker.
     pub fn may_close(&self) -> bool
         ensures value { result ≡ may_close self.now }
-        ensures exact { (m : MachineControl) → StandsFor self.now m → IsTrue result ↔ IsOpenOn (rules_of self.now.settings) m }
+        ensures exact { (m : MachineControl) → StandsFor self.now m → IsTrue result ↔ IsOpenOn (rules_of (settings_of self.now)) m }
     {
         self.is_open()
     }
@@ -48,7 +49,7 @@ impl Controller {
         requires next { IsNext self.old m }
         ensures sound { OnOk result (IsSound self.new) }
         ensures same { OnOk result (SameRules self.old self.new) }
-        ensures outs { OnOk result (self.new.outs ≡ self.old.outs) }
+        ensures outs { OnOk result (outs_of self.new ≡ outs_of self.old) }
         ensures keys { OnOk result (KeysStay self.old self.new) }
         ensures order { OnOk result (Posts self.old self.new []) }
         ensures number { OnOk result (NoneNumbered self.old self.new) }
@@ -117,7 +118,7 @@ impl Controller {
         requires { IsSound self.old }
         ensures sound { IsSound self.new }
         ensures same { SameRules self.old self.new }
-        ensures outs { self.new.outs ≡ self.old.outs }
+        ensures outs { outs_of self.new ≡ outs_of self.old }
         ensures keys { KeysStay self.old self.new }
         ensures order { Posts self.old self.new [] }
         ensures number { NoneNumbered self.old self.new }

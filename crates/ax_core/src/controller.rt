@@ -6,6 +6,7 @@ ghost use Rattle.ax_time.specs.Timers.{times_of};
 ghost use Rattle.ax_machine.specs.Entries.{Key as AnyKey};
 ghost use Rattle.ax_execution.specs.Origins.{first};
 ghost use Rattle.ax_execution.specs.MachineControls.{MachineControl, at_origin, in_flight_on};
+ghost use Rattle.ax_core.specs.Views.{program_of, settings_of};
 ghost use Rattle.ax_core.specs.Flow.{shard_of};
 ghost use Rattle.ax_core.specs.Rooms.{AreTaken, IsNew};
 ghost use Rattle.ax_core.specs.Sound.{InRange, StandsFor, IsSound};
@@ -53,8 +54,8 @@ impl Controller {
     pub fn new(alloc: Global, program: Program, settings: Settings) -> Result<Controller, NoMemory>
         requires { InRange settings }
         ensures sound { IfOk result (λ a. IsSound a) }
-        ensures program { IfOk result (λ a. a.program ≡ program) }
-        ensures settings { IfOk result (λ a. a.settings ≡ settings) }
+        ensures program { IfOk result (λ a. program_of a ≡ program) }
+        ensures settings { IfOk result (λ a. settings_of a ≡ settings) }
         ensures stands { IfOk result (λ a. StandsFor a (at_origin (first (shown_program program)))) }
         ensures idle { IfOk result (λ a. idle_in a ≡ []) }
         ensures number { IfOk result (λ a. NothingNumbered a) }
@@ -72,7 +73,7 @@ impl Controller {
 
     /// How many contexts may be in flight, as the settings say.
     pub fn limit(&self) -> u32
-        ensures { result ≡ self.now.settings.in_flight }
+        ensures { result ≡ (settings_of self.now).in_flight }
     {
         self.settings.in_flight
     }
@@ -93,7 +94,7 @@ impl Controller {
 
     /// The program that it runs.
     pub fn program(&self) -> &Program
-        ensures { result.now ≡ self.now.program }
+        ensures { result.now ≡ program_of self.now }
     {
         &self.program
     }

@@ -6,6 +6,7 @@ ghost use Rattle.ax_context.specs.Slots.{live_count};
 ghost use Rattle.ax_account.specs.Parts.{next_of, may_fire as mark_may_fire};
 ghost use Rattle.ax_account.specs.Accounts.{owner_of, waiting_of, AreSound};
 ghost use Rattle.ax_execution.specs.MachineControls.{MachineControl};
+ghost use Rattle.ax_core.specs.Views.{outs_of};
 ghost use Rattle.ax_core.specs.May.{may_fire};
 ghost use Rattle.ax_core.specs.Sound.{StandsFor, IsSound};
 ghost use Rattle.ax_core.specs.Events.{SameRules, KeysStay, Fires, MayFireOn};
@@ -51,7 +52,7 @@ impl Controller {
         requires may { may_fire self.old ≡ true }
         ensures sound { OnOk result (IsSound self.new) }
         ensures same { OnOk result (SameRules self.old self.new) }
-        ensures outs { OnOk result (self.new.outs ≡ self.old.outs) }
+        ensures outs { OnOk result (outs_of self.new ≡ outs_of self.old) }
         ensures keys { OnOk result (KeysStay self.old self.new) }
         ensures order { IfOk result (λ f. Posts self.old self.new (ran.Start f.context ∷ [])) }
         ensures idle { IfOk result (λ f. idle_in self.old ≡ f.key ∷ idle_in self.new) }

@@ -2,13 +2,17 @@
 ghost use Rattle.std.specs.Prelude.{◌≡◌, ◌↔◌, ◌<◌, ◌-◌, ◌^◌, ℕ, List, length};
 ghost use Rattle.std.specs.List.{Contains, IsDistinct};
 ghost use Rattle.ax_machine.specs.Entries.{Key};
-ghost use Rattle.ax_execution.specs.Machine.{Serve};
+ghost use Rattle.ax_execution.specs.Machine.{Start, Serve, Deliver};
 ghost use Rattle.ax_execution.specs.MachineControls.{MachineControl};
 ghost use Rattle.ax_execution.specs.ControlsAllowed.{AllowedOn};
+ghost use Rattle.ax_core.specs.Views.{settings_of};
 ghost use Rattle.ax_core.specs.Sound.{rules_of, StandsFor, IsSound};
 ghost use Rattle.ax_core.specs.declared.controller.Controller.{Controller as AnyController};
 ghost use Rattle.ax_core.specs.Numbers.{NothingNumbered, Call, AreCalls, numbers_of, numbers_from};
-ghost use Rattle.ax_core.specs.Order.{Asked};
+ghost use Rattle.ax_core.specs.declared.effects.Ran.{Ran as AnyRan};
+ghost use Rattle.ax_core.specs.declared.effects.Ran.TheVariants as ran;
+ghost use Rattle.ax_core.specs.Order.{Asked, callbacks_in};
+ghost use Rattle.ax_core.specs.Posted.{IsPosted, IsToRun, same_callback};
 ghost use Rattle.ax_core.specs.Requests.{requests_in, all_requests, same_asked, IsQueuedOrOut, IsUnserved};
 
 use crate::controller::Controller;
@@ -19,10 +23,24 @@ use ax_context::laws::numbers_law;
 pub fn requests_stand_until_served(controller: &Controller)
     requires sound { IsSound controller.now }
     ensures served { (m : MachineControl) (key : Key) (slot : ℕ) → StandsFor controller.now m
-        → AllowedOn (rules_of controller.now.settings) (Serve key slot) m ↔ IsQueuedOrOut controller.now key slot (m.controls key).owner }
+        → AllowedOn (rules_of (settings_of controller.now)) (Serve key slot) m ↔ IsQueuedOrOut controller.now key slot (m.controls key).owner }
     ensures unserved { (m : MachineControl) (shard : ℕ) (r : Asked) → StandsFor controller.now m
         → Contains (requests_in controller.now shard) r ↔ IsUnserved controller.now m shard r }
     ensures once { IsDistinct same_asked (all_requests controller.now) }
+{
+    numbers_law(&controller.contexts);
+}
+
+/// A handler may begin, or be given an answer, exactly where the mail for that waits in the mailbox: each mail is of the owner
+/// of some key and may run, and no callback is posted twice.
+pub fn callbacks_stand_until_run(controller: &Controller)
+    requires sound { IsSound controller.now }
+    ensures starts { (m : MachineControl) (key : Key) → StandsFor controller.now m
+        → AllowedOn (rules_of (settings_of controller.now)) (Start key) m ↔ IsPosted controller.now (λ n. ran.Start n) (m.controls key).owner }
+    ensures replies { (m : MachineControl) (key : Key) (slot : ℕ) → StandsFor controller.now m
+        → AllowedOn (rules_of (settings_of controller.now)) (Deliver key slot) m ↔ IsPosted controller.now (λ n. ran.Reply n slot) (m.controls key).owner }
+    ensures to_run { (m : MachineControl) (r : AnyRan) → StandsFor controller.now m → Contains (callbacks_in controller.now) r ↔ IsToRun controller.now m r }
+    ensures once { IsDistinct same_callback (callbacks_in controller.now) }
 {
     numbers_law(&controller.contexts);
 }
