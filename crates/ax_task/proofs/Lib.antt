@@ -6,6 +6,7 @@ pub mod Sections
 pub mod Stopped
 pub mod Whole
 pub mod Parsed
+pub mod Telling
 pub mod KeptAsks
 pub mod Served
 pub mod Refining

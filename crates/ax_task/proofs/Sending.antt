@@ -18,7 +18,7 @@ use Rattle.ax_core.specs.Flow.{out_of}
 use Rattle.ax_core.specs.Sound.{StandsFor, IsSound}
 use Rattle.ax_core.specs.Events.{SameRules, KeysStay, OfKeys, AsksAll, IsBatchOut, ServesAll, names_in}
 use Rattle.ax_core.specs.Batches.{OthersOut}
-use Rattle.ax_core.specs.Order.{SendsFirst, Posts, replies_in}
+use Rattle.ax_core.specs.Order.{SendsFirst, Posts, replies_in, idle_in}
 use Rattle.ax_task.specs.Serving.{Content, AllFit}
 use Rattle.ax_task.specs.Shards.{Serving, shard_count, held, out, next_out, IsNext, Stays, Came}
 use Rattle.ax_task.specs.Refined.{content_over, Refines}
@@ -139,23 +139,33 @@ nothing e home none = record {
 -- what was sent are the first requests that waited
 pub sent_first : (e e' : Engine) (shard : ℕ) (batch : List Item) → batch ≡ take (batch_of e) (queue_of e.core.buffer shard)
     → SendsFirst e.core e'.core shard (batch_of e) batch → ((t : ℕ) → out e'.shards t ≡ upd (out e.shards) shard batch t) → ((t : ℕ) → held e'.shards t ≡ held e.shards t)
-    → e'.shards.sent ≡ e.shards.sent ++ shard ∷ [] → e'.shards.order ≡ e.shards.order → IsSent e e' shard
-sent_first e e' shard batch is queue now kept sent order = record {
+    → e'.shards.sent ≡ e.shards.sent ++ shard ∷ [] → e'.shards.order ≡ e.shards.order
+    → idle_in e'.core ≡ idle_in e.core → e'.settings ≡ e.settings → batch_of e' ≡ batch_of e → IsSent e e' shard
+sent_first e e' shard batch is queue now kept sent order idle settings size = record {
   queue = subst (λ (b : List Item). SendsFirst e.core e'.core shard (batch_of e) b) is queue;
   batches = subst (λ (b : List Item). (t : ℕ) → out e'.shards t ≡ upd (out e.shards) shard b t) is now;
   kept = kept;
   sent = sent;
   order = order;
+  idle = idle;
+  settings = settings;
+  batch = size;
 }
 
 -- what came back is the batch that was next
 pub back_next : (e e' : Engine) (n shard : ℕ) (rs : List Reply) → Came n (out e.shards) (out e'.shards) (held e.shards) (held e'.shards) shard (Ok rs)
-    → IsNext e.shards e'.shards shard → Posts e.core e'.core (replies_in e.core rs) → IsBack e e' (next_out e.shards)
-back_next e e' n shard rs came next posts = subst (IsBack e e') next.shard (record {
+    → IsNext e.shards e'.shards shard → Posts e.core e'.core (replies_in e.core rs) → idle_in e'.core ≡ idle_in e.core → e'.settings ≡ e.settings → batch_of e' ≡ batch_of e
+    → IsBack e e' (next_out e.shards)
+back_next e e' n shard rs came next posts idle settings size = subst (IsBack e e') next.shard (record {
   next = next;
   was_out = came.was_out;
   home = came.home;
   replies = subst (λ (ys : List Reply). Posts e.core e'.core (replies_in e.core ys)) came.served.replies posts;
+  served = came.served.content;
+  others = came.others;
+  idle = idle;
+  settings = settings;
+  batch = size;
 })
 
 -- no full batch can be sent: the next is served

@@ -3,8 +3,8 @@ use Rattle.std.specs.Prelude.{◌≡◌, ◌≢◌, ◌≤◌, ◌<◌, ℕ, Boo
 use Rattle.ax_text.specs.Functions.{upd}
 use Rattle.ax_buffer.specs.declared.items.Item.{Item}
 use Rattle.ax_buffer.specs.Buffer.{queue_of}
-use Rattle.ax_core.specs.Order.{SendsFirst, Posts, replies_in}
-use Rattle.ax_task.specs.Serving.{replies_to}
+use Rattle.ax_core.specs.Order.{SendsFirst, Posts, replies_in, idle_in}
+use Rattle.ax_task.specs.Serving.{replies_to, content_after}
 use Rattle.ax_task.specs.Shards.{held, out, next_out, IsNext}
 use Rattle.ax_task.specs.Engines.{batch_of, order_of}
 use Rattle.ax_task.specs.Refined.{content_over}
@@ -49,6 +49,9 @@ pub record IsSent (old new : Engine) (shard : ℕ) : Type 0 where
   pub kept : (s : ℕ) → held new.shards s ≡ held old.shards s
   pub sent : new.shards.sent ≡ old.shards.sent ++ shard ∷ []
   pub order : order_of new ≡ order_of old
+  pub idle : idle_in new.core ≡ idle_in old.core
+  pub settings : new.settings ≡ old.settings
+  pub batch : batch_of new ≡ batch_of old
 
 -- the batch of a shard, the next by the list of numbers, was served and its replies were delivered; the shard is home
 pub record IsBack (old new : Engine) (shard : ℕ) : Type 0 where
@@ -56,6 +59,11 @@ pub record IsBack (old new : Engine) (shard : ℕ) : Type 0 where
   pub was_out : out old.shards shard ≢ []
   pub home : (s : ℕ) → out new.shards s ≡ upd (out old.shards) shard [] s
   pub replies : Posts old.core new.core (replies_in old.core (replies_to (out old.shards shard) (held old.shards shard)))
+  pub served : held new.shards shard ≡ content_after (out old.shards shard) (held old.shards shard)
+  pub others : (s : ℕ) → s ≢ shard → held new.shards s ≡ held old.shards s
+  pub idle : idle_in new.core ≡ idle_in old.core
+  pub settings : new.settings ≡ old.settings
+  pub batch : batch_of new ≡ batch_of old
 
 -- no shard is out
 abbrev pub NoneOut : Engine → Type 0

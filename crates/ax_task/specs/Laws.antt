@@ -1,9 +1,19 @@
--- What the bytes of an input and those of an output tell.
-use Rattle.std.specs.Prelude.{◌≡◌, ℕ, List, Bool}
+-- What the bytes of an input and those of an output tell, and what an end tells.
+use Rattle.std.specs.Prelude.{◌≡◌, ℕ, List, [], ◌++◌, Bool, Some}
+use Rattle.std.specs.Io.KnownBytes.{Appends}
+use Rattle.ax_base.specs.Outside.{AppendsSome}
+use Rattle.ax_text.specs.Programs.{Program}
 use Rattle.ax_machine.specs.Entries.{Entry, text_of}
+use Rattle.ax_machine.specs.Events.{Event}
 use Rattle.ax_machine.specs.Lawful.{LawfulFor, LawfulSoFarFor}
 use Rattle.ax_input.specs.PlainEntries.{IsShort}
-use Rattle.ax_task.specs.Parse.{Parsed, BadProgram, Runs, parse}
+use Rattle.ax_execution.specs.MachineControls.{MachineControl, in_flight_on}
+use Rattle.ax_core.specs.Sound.{StandsFor}
+use Rattle.ax_task.specs.Parse.{Parsed, BadProgram, Runs, Stream, Ending, parse}
+use Rattle.ax_task.specs.Clause.{Holds, AreWholeLines}
+use Rattle.ax_task.specs.Running.{State}
+use Rattle.ax_task.specs.declared.end.End.{End}
+use Rattle.ax_task.specs.declared.end.End.TheVariants as end
 
 -- an input that says a program, for whose events this list may be written as a whole, where there are m key groups
 abbrev pub MayEndWith : ℕ → Bool → Parsed → List Entry → Type 0
@@ -19,3 +29,57 @@ MayHaveWritten m serial (Runs p s) written = LawfulSoFarFor m serial p s.events 
 abbrev pub TextsTell : (ℕ → Bool → Parsed → List Entry → Type 0) → List ℕ → List ℕ → Type 0
 TextsTell Writes input other =
     (m n : ℕ) (serial mode : Bool) (one two : List Entry) → Writes m serial (parse input) one → Writes n mode (parse other) two → IsShort one → text_of one ≡ text_of two → one ≡ two
+
+-- the ends at which a run stops before it has written all
+abbrev pub IsStop : End → Type 0
+IsStop end.Ok = ⊥
+IsStop (end.Input line kind) = ⊥
+IsStop (end.Program line kind) = ⊥
+IsStop end.Read = Unit {0}
+IsStop end.Write = Unit {0}
+IsStop end.NoMemory = Unit {0}
+
+-- a first part of the text of a list was written, which may be written so far for these events
+pub record PartIsWritten (m : ℕ) (serial : Bool) (p : Program) (events : List Event) (out : Holds) : Type 0 where
+  pub list : List Entry
+  pub lawful : LawfulSoFarFor m serial p events list
+  pub part : AppendsSome out.old out.new (text_of list)
+
+-- nothing was written where these lines say no program
+abbrev pub PartOf : ℕ → Bool → Holds → Parsed → Type 0
+PartOf m serial out (BadProgram line kind) = Appends out.old out.new []
+PartOf m serial out (Runs p s) = PartIsWritten m serial p s.events out
+
+-- of the bytes of an input some were taken, and of what the whole lines among them say a part was written
+pub record WroteAPart (m : ℕ) (serial : Bool) (out : Holds) (bytes left : List ℕ) : Type 0 where
+  pub taken : List ℕ
+  pub lines : List ℕ
+  pub all : bytes ≡ taken ++ left
+  pub whole : AreWholeLines taken left lines
+  pub part : PartOf m serial out (parse lines)
+
+-- the input says a program and events that end so, and the sink grew by the text of a list that is lawful for all of them
+pub record WroteAll (m : ℕ) (serial : Bool) (out : Holds) (input : Parsed) (ending : Ending) : Type 0 where
+  pub program : Program
+  pub stream : Stream
+  pub says : input ≡ Runs program stream
+  pub ends : stream.ending ≡ ending
+  pub list : List Entry
+  pub lawful : LawfulFor m serial program stream.events list
+  pub text : Appends out.old out.new (text_of list)
+
+-- the ends by what was found at the input
+abbrev pub IsFoundEnd : End → Type 0
+IsFoundEnd end.Ok = Unit {0}
+IsFoundEnd (end.Input line kind) = Unit {0}
+IsFoundEnd (end.Program line kind) = ⊥
+IsFoundEnd end.Read = Unit {0}
+IsFoundEnd end.Write = ⊥
+IsFoundEnd end.NoMemory = ⊥
+
+-- it was found, nothing is in flight, no marker is to be sent, and nothing is gathered
+pub record LeftNothing (t : State) (e : End) : Type 0 where
+  pub found : t.reading.found ≡ Some e
+  pub none : (m : MachineControl) → StandsFor t.engine.core m → in_flight_on m ≡ 0
+  pub unsent : (m : MachineControl) → StandsFor t.engine.core m → m.unsent ≡ []
+  pub gathered : t.gathered ≡ []

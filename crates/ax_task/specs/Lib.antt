@@ -3,7 +3,6 @@ pub mod Parse
 pub mod Clause
 pub mod Reads
 pub mod Passes
-pub mod Laws
 pub mod Serving
 pub mod Shards
 pub mod Refined
@@ -21,3 +20,4 @@ pub mod Steady
 pub mod Running
 pub mod Calls
 pub mod Things
+pub mod Laws

@@ -1,10 +1,20 @@
 //! Laws of what inputs say and of what is written for them. The functions do nothing; their contracts are the laws.
-ghost use Rattle.std.specs.Prelude.{◌≡◌, ℕ, List, Bool};
+ghost use Rattle.std.specs.Prelude.{◌≡◌, ℕ, List, [], Bool};
+ghost use Rattle.std.specs.Io.KnownBytes.{Appends};
+ghost use Rattle.ax_base.specs.Outside.{Counts};
 ghost use Rattle.ax_text.specs.Programs.{Program};
 ghost use Rattle.ax_machine.specs.Sync.{sync};
 ghost use Rattle.ax_input.specs.PlainEntries.{IsRun};
-ghost use Rattle.ax_task.specs.Parse.{Stream, Runs, parse};
-ghost use Rattle.ax_task.specs.Laws.{MayEndWith, MayHaveWritten, TextsTell};
+ghost use Rattle.ax_task.specs.Parse.{Parsed, BadProgram, Stream, Clean, Fault, Runs, parse};
+ghost use Rattle.ax_task.specs.Clause.{Holds, RunEnds, Stops};
+ghost use Rattle.ax_task.specs.Tasks.{Outer};
+ghost use Rattle.ax_task.specs.Causes.{StepIsCaused};
+ghost use Rattle.ax_task.specs.Running.{State};
+ghost use Rattle.ax_task.specs.Things.{StepDoes};
+ghost use Rattle.ax_task.specs.Laws.{MayEndWith, MayHaveWritten, TextsTell, IsStop, WroteAPart, WroteAll, IsFoundEnd, LeftNothing};
+ghost use Rattle.ax_task.specs.declared.end.End.{End};
+ghost use Rattle.ax_task.specs.declared.end.End.TheVariants as end;
+ghost use Rattle.ax_task.specs.declared.step.Step.TheVariants as step;
 
 /// Where the bytes of an input say a program and events, they are a run: the program is valid, and lines spell the events.
 pub fn parsed_input_is_a_run()
@@ -22,4 +32,26 @@ pub fn equal_outputs_have_equal_entries()
 pub fn plain_list_may_be_written()
     ensures whole { (m : ℕ) (serial : Bool) (bytes : List ℕ) (p : Program) (s : Stream) → parse bytes ≡ Runs p s → MayEndWith m serial (parse bytes) (sync m p s.events).entries }
     ensures so_far { (m : ℕ) (serial : Bool) (bytes : List ℕ) (p : Program) (s : Stream) → parse bytes ≡ Runs p s → MayHaveWritten m serial (parse bytes) (sync m p s.events).entries }
+{}
+
+/// What `run_task_alone` says at a read fault, a write fault and want of memory, means: of the bytes of the input some were taken,
+/// and a first part was written of the text of a list that may be written so far for the events of the whole lines among them;
+/// nothing, where these lines say no program.
+pub fn stopped_runs_wrote_a_part()
+    ensures { (m : ℕ) (serial : Bool) (out : Holds) (bytes left : List ℕ) (e : End) → IsStop e → Stops m serial out bytes left e → WroteAPart m serial out bytes left }
+{}
+
+/// What it says at the other ends, means: at `Ok` the input has no fault and nothing is left of it, and the text of a list was
+/// written that is lawful for all its events; at `Input` the same up to the first fault, which is the one that is named; at
+/// `Program` the fault is that of the section, and nothing was written.
+pub fn runs_that_end_wrote_all()
+    ensures ok { (m : ℕ) (serial : Bool) (out : Holds) (input : Parsed) (left : List ℕ) → RunEnds m serial out input left end.Ok → WroteAll m serial out input Clean × (left ≡ []) }
+    ensures input { (m : ℕ) (serial : Bool) (out : Holds) (input : Parsed) (left : List ℕ) (line kind : ℕ) → RunEnds m serial out input left (end.Input line kind) → WroteAll m serial out input (Fault line kind) }
+    ensures program { (m : ℕ) (serial : Bool) (out : Holds) (input : Parsed) (left : List ℕ) (line kind : ℕ) → RunEnds m serial out input left (end.Program line kind) → (input ≡ BadProgram line kind) × Appends out.old out.new [] }
+{}
+
+/// Where a step ends a run by `Ok`, `Input` or `Read`, that is what was found at the input, nothing is in flight, no marker is to be
+/// sent, and nothing is gathered that isn't written.
+pub fn ended_steps_left_nothing()
+    ensures { (t u : State) (old now : Outer) (before behind : Counts) (e : End) → IsFoundEnd e → StepDoes t u old now (step.End e) → StepIsCaused u.engine.core u.reading.found before behind (step.End e) → LeftNothing u e }
 {}
