@@ -1,5 +1,5 @@
 -- The requests of a callback, one after the other.
-use Rattle.std.proofs.Common.{◌≡◌, ℕ, ◌+◌, ◌≤◌, ◌<◌, List, [], ◌∷◌, ◌++◌, length, get_or, set, Option, Some, None, IsSomeAnd, refl, sym, ap, ◌∙◌, subst, arith, append_assoc, length-append, suc}
+use Rattle.std.proofs.Common.{◌≡◌, ◌↔◌, ℕ, ◌+◌, ◌≤◌, ◌<◌, Bool, true, false, IsTrue, List, [], ◌∷◌, ◌++◌, length, get_or, set, Option, Some, None, IsSomeAnd, refl, sym, ap, ◌∙◌, subst, arith, append_assoc, length-append, suc}
 use Rattle.std.proofs.lemmas.List.{append-nil, set-set, set-get_or, length-set, get_or-set_same}
 use Rattle.ax_buffer.specs.declared.items.Item.{Item}
 use Rattle.ax_buffer.specs.Buffer.{Buffer, queue_of, total}
@@ -82,3 +82,7 @@ shard_behind a b shard is there h = subst (λ (n : ℕ). shard < n) (sym (shards
 pub none_left : {A : Type 0} (xs : List A) → 0 ≡ length xs → xs ≡ []
 none_left [] e = refl
 none_left (x ∷ xs) e = absurd (omega arith)
+
+pub some_left : {A : Type 0} (xs : List A) (empty : Bool) → IsTrue empty ↔ (xs ≡ []) → empty ≡ false → 0 < length xs
+some_left [] empty h e = absurd (cc (sym (h.1 refl) ∙ e))
+some_left (x ∷ xs) empty h e = omega arith

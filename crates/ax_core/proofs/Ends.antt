@@ -1,9 +1,11 @@
 -- The end of a callback, from what its parts do.
-use Rattle.std.proofs.Common.{◌≡◌, ℕ, ◌+◌, ℤ, List, length, true, false, Option, Some, None, IsSomeAnd, Result, IfOk, refl, sym, ap, ◌∙◌, subst, arith}
+use Rattle.std.proofs.Common.{◌≡◌, ◌<◌, ℕ, ◌+◌, ℤ, List, [], length, true, false, Option, Some, None, IsSomeAnd, Result, IfOk, refl, sym, ap, ◌∙◌, subst, arith}
 use Rattle.ax_base.specs.declared.outside.NoMemory.{NoMemory}
 use Rattle.ax_text.specs.declared.vocabulary.Answer.{Answer}
+use Rattle.ax_text.specs.declared.vocabulary.Handler.{Handler}
 use Rattle.ax_text.specs.declared.vocabulary.TimerOp.{TimerOp}
 use Rattle.ax_text.specs.Run.{times_after}
+use Rattle.ax_future.specs.declared.callback.Ask.{Ask}
 use Rattle.ax_future.specs.declared.callback.Turn.{Turn}
 use Rattle.ax_machine.specs.Entries.{Key}
 use Rattle.ax_buffer.specs.Buffer.{Buffer}
@@ -23,7 +25,8 @@ use Rattle.ax_core.specs.declared.effects.Ran.{Ran}
 use Rattle.ax_core.specs.declared.controller.Controller.{Controller}
 use Rattle.ax_core.specs.Flow.{shard_of}
 use Rattle.ax_core.specs.Callbacks.{HasBegun, HasResumed, items_for, IsHeld, IsQueued, ended, all_left, AllMayLeave, row_epochs, GoesOn}
-use Rattle.ax_core.specs.Calls.{Leaves, IsDone, CallEnds, MayEnd, Started, Replied}
+use Rattle.ax_core.specs.Calls.{Leaves, IsLast, IsDone, CallEnds, MayEnd, Started, Replied}
+use Rattle.ax_core.proofs.AskLemmas.{held_none, queued_none}
 use Rattle.ax_core.proofs.GetLemmas.{if_ok}
 use Rattle.ax_core.proofs.TimerLemmas.{puts_at}
 
@@ -68,6 +71,18 @@ asks_here a id t key got ops timers contexts buffer shard may is_got copied all 
           },
         )
 
+-- a callback that asks nothing, and which of its context's last reference is given up
+pub asks_ended : (a : Controller) (id : Id) (t : Turn) (key : Key) (got : Record) (ops : List TimerOp) (timers : List Timer) (s : Slots Record) (handler : Handler) (epoch : ℕ)
+    → Has a.contexts id (MayEnd a id t) → Has a.contexts id (λ h. got ≡ h.payload) → t.asks ≡ [] → ops ≡ t.timer_ops → PutsTimes a.timers timers got.facts.key (times_after ops (times_of a.timers got.facts.key))
+    → IsLast a.contexts s id key handler epoch → (h : Held Record) × Asks a id t key timers a.contexts a.buffer h
+asks_ended a id t key got ops timers s handler epoch may is_got silent all times last =
+    let it : (h : Held Record) × Asks a id t got.facts.key timers a.contexts a.buffer h = asks_here a id t got.facts.key got ops timers a.contexts a.buffer (shard_of a.settings got.facts.key) may is_got refl all times refl
+    (subst (λ (asks : List Ask). IsHeld a.contexts a.contexts id (length asks)) (sym silent) (held_none a.contexts id (MayEnd a id t) may))
+    (subst (λ (asks : List Ask). IsQueued a.buffer a.buffer (shard_of a.settings got.facts.key) (items_for id got.facts.key asks)) (sym silent) (queued_none a.buffer (shard_of a.settings got.facts.key))) in
+    let gone : Answers it.0 (released.Gone last.payload epoch last.number) = has_at (λ (c : Held Record). Answers c (released.Gone last.payload epoch last.number)) (at a.contexts id) it.0 it.1.there last.leaves.answer in
+    let same : got.facts.key ≡ key = it.1.named ∙ sym (last.named ∙ ap (λ (r : Record). r.facts.key) gone.1) in
+    (it.0, subst (λ (k : Key). Asks a id t k timers a.contexts a.buffer it.0) same it.1)
+
 module _ (a : Controller) (id : Id) (t : Turn) (key : Key) (timers : List Timer) (contexts : Slots Record) (buffer : Buffer) (h : Held Record) (asks : Asks a id t key timers contexts buffer h) (s : Slots Record) where
   -- with the references of its requests
   abbrev more : Held Record
@@ -75,6 +90,10 @@ module _ (a : Controller) (id : Id) (t : Turn) (key : Key) (timers : List Timer)
 
   counted_more : at contexts id ≡ Some more
   counted_more = has_at (λ (c : Held Record). at contexts id ≡ Some (record c { count = c.count + length t.asks })) (at a.contexts id) h asks.there asks.done.held.counted
+
+  -- there are several
+  pub several : Has a.contexts id (λ g. 1 < g.count + length t.asks) → Has contexts id (λ c. 1 < c.count)
+  several x = held_has (λ (c : Held Record). 1 < c.count) (at contexts id) more counted_more (has_at (λ (g : Held Record). 1 < g.count + length t.asks) (at a.contexts id) h asks.there x)
 
   -- and it waits on
   pub call_waits : Leaves contexts s id released.Live → (ran : Ran)

@@ -37,7 +37,6 @@ pub mod TimerLemmas
 pub mod Marking
 pub mod Marked
 pub mod Closes
-pub mod Free
 pub mod ClosedBy
 pub mod Fires
 pub mod FiresFlow

@@ -5,6 +5,7 @@ use Rattle.ax_text.specs.declared.vocabulary.Handler.{Handler}
 use Rattle.ax_text.specs.Run.{times_after}
 use Rattle.ax_future.specs.declared.callback.Turn.{Turn}
 use Rattle.ax_time.specs.Timers.{PutsTimes, times_of}
+use Rattle.ax_machine.specs.Entries.{Key}
 use Rattle.ax_buffer.specs.Buffer.{total}
 use Rattle.ax_context.specs.declared.id.Id.{Id}
 use Rattle.ax_context.specs.declared.contexts.Context.{Context as Held}
@@ -37,17 +38,13 @@ pub record Leaves (old new : Slots Record) (id : Id) (result : Released Record) 
   pub limit : new.limit ≡ old.limit
   pub next : new.next ≡ old.next
 
--- the last reference is given up, of a context with this handler and epoch
-pub record IsLast (old new : Slots Record) (id : Id) (handler : Handler) (epoch : ℕ) : Type 0 where
+-- the last reference is given up, of a context with this key, handler and epoch
+pub record IsLast (old new : Slots Record) (id : Id) (key : Key) (handler : Handler) (epoch : ℕ) : Type 0 where
   pub payload : Record
   pub number : ℕ
+  pub named : key ≡ payload.facts.key
   pub handles : handler ≡ payload.handler
   pub leaves : Leaves old new id (released.Gone payload epoch number)
-
--- a reference is given up: one of several, or the last
-abbrev pub LeftBy : Slots Record → Slots Record → Id → Option (Handler × ℕ) → Type 0
-LeftBy old new id None = Leaves old new id released.Live
-LeftBy old new id (Some (handler, epoch)) = IsLast old new id handler epoch
 
 -- its reference is given up, and its context waits on
 pub record WaitsOn (a b : Controller) (id : Id) (h : Held Record) : Type 0 where

@@ -1,9 +1,6 @@
 -- What changes where an epoch is closed, and where its marker is sent.
-use Rattle.std.specs.Prelude.{◌≡◌, ℕ, ◌+◌, ℤ, is_none, Bool, true, false, List, [], ◌∷◌, Option, Some, None}
+use Rattle.std.specs.Prelude.{◌≡◌, ℕ, ◌+◌, ℤ, Bool, true, false, List, [], ◌∷◌, Option, Some, None}
 use Rattle.ax_machine.specs.Entries.{Key}
-use Rattle.ax_context.specs.declared.id.Id.{Id}
-use Rattle.ax_account.specs.declared.part.Next.{Next}
-use Rattle.ax_account.specs.declared.part.Next.TheVariants as next
 use Rattle.ax_account.specs.Parts.{Part, waits}
 use Rattle.ax_account.specs.Accounts.{Accounts, part_of, Changes, mark, idle_with}
 use Rattle.ax_time.specs.declared.epoch.Marker.{Marker}
@@ -46,9 +43,3 @@ current_count book = count_of book (current_of book)
 
 abbrev pub every : Part → Bool
 every part = true
-
--- a key is free, by its owner and what waits in front
-abbrev pub is_free_at : Option Id → Next → Bool
-is_free_at owner (next.Row id) = false
-is_free_at owner (next.Mark epoch time fired) = false
-is_free_at owner next.Free = is_none owner

@@ -17,7 +17,7 @@ ghost use Rattle.ax_core.specs.Events.{SameRules, KeysStay, Runs, MayCallOn};
 ghost use Rattle.ax_core.specs.Numbers.{NumbersBehind};
 ghost use Rattle.ax_core.specs.Order.{RunsFirst, idle_in};
 ghost use Rattle.ax_core.specs.Callbacks.{Begins, WaitsAt, ResumedAt, HasBegun, HasResumed, item_for, items_for, IsHeld, IsQueued, ending, behind_marks, ended, all_left, AllMayLeave, row_epochs, with_start, waits_next, HandsOver, GoesOn};
-ghost use Rattle.ax_core.specs.Calls.{LeftBy, CallEnds, IsReady, MayStart, MayReply, Started, Replied};
+ghost use Rattle.ax_core.specs.Calls.{IsLast, CallEnds, IsReady, MayStart, MayReply, Started, Replied};
 
 use crate::controller::Controller;
 use crate::effects::{Effects, Fired, Ran};
@@ -111,6 +111,21 @@ impl Controller {
         ensures ran { IfOk result (λ f. f.ran ≡ ran) }
         ensures ends { IfOk result (λ f. Has self.old.contexts id (λ h. CallEnds self.old self.new id h turn f)) }
     {
+        let references = self.contexts.count(id);
+        if turn.asks.is_empty() && references == 1 {
+            self.end_context(id, ran, turn)
+        } else {
+            self.wait_on(id, ran, turn)
+        }
+    }
+
+    // A callback behind which its context waits on. The key is copied for what it did, and once for each request.
+    fn wait_on(&mut self, id: Id, ran: Ran, turn: Turn) -> Result<Effects, NoMemory>
+        requires ready { IsReady self.old id turn }
+        requires more { Has self.old.contexts id (λ h. 1 < h.count + length turn.asks) }
+        ensures ran { IfOk result (λ f. f.ran ≡ ran) }
+        ensures ends { IfOk result (λ f. Has self.old.contexts id (λ h. CallEnds self.old self.new id h turn f)) }
+    {
         let Turn {
             asks,
             outs,
@@ -128,19 +143,39 @@ impl Controller {
             &key,
             asks,
         )?;
-        let Some((handler, epoch)) = give_up(&mut self.contexts, id) else {
-            return Ok(Effects {
-                key,
-                ran,
-                outs,
-                gone: false,
-                fired: None,
-            });
-        };
-        leave_row(&mut self.epochs, handler, epoch);
-        let fired = self.go_on(&key)?;
+        self.contexts.release_one(id);
         Ok(Effects {
             key,
+            ran,
+            outs,
+            gone: false,
+            fired: None,
+        })
+    }
+
+    // The last callback of a context. What it did bears the context's own key, and no copy.
+    fn end_context(&mut self, id: Id, ran: Ran, turn: Turn) -> Result<Effects, NoMemory>
+        requires ready { IsReady self.old id turn }
+        requires silent { turn.asks ≡ [] }
+        requires last { Has self.old.contexts id (λ h. h.count ≡ 1) }
+        ensures ran { IfOk result (λ f. f.ran ≡ ran) }
+        ensures ends { IfOk result (λ f. Has self.old.contexts id (λ h. CallEnds self.old self.new id h turn f)) }
+    {
+        let Turn {
+            outs,
+            timer_ops,
+            ..
+        } = turn;
+        set_timers(
+            &mut self.timers,
+            &self.contexts.get(id).facts.key,
+            timer_ops.as_slice(),
+        )?;
+        let ended = give_up(&mut self.contexts, id);
+        leave_row(&mut self.epochs, ended.handler, ended.epoch);
+        let fired = self.go_on(&ended.key)?;
+        Ok(Effects {
+            key: ended.key,
             ran,
             outs,
             gone: true,
@@ -312,19 +347,28 @@ fn ask_all(
     Ok(())
 }
 
-// A reference is given up. Where that was the last, the handler and the epoch of its context.
+// What is left of a context that has ended: its own key, its handler and its epoch.
+#[derive(Drop)]
+struct Ended {
+    key: Key,
+    handler: Handler,
+    epoch: u64,
+}
+
+// The last reference is given up.
 #[inline(never)]
-fn give_up(contexts: &mut Contexts<Record>, id: Id) -> Option<(Handler, u64)>
-    requires { IsLive contexts.old id }
-    ensures { LeftBy contexts.old contexts.new id result }
+fn give_up(contexts: &mut Contexts<Record>, id: Id) -> Ended
+    requires { Has contexts.old id (λ c. c.count ≡ 1) }
+    ensures { IsLast contexts.old contexts.new id result.key result.handler result.epoch }
 {
-    if contexts.count(id) > 1 {
-        contexts.release_one(id);
-        return None;
-    }
-    match contexts.release(id) {
-        Released::Live => None,
-        Released::Gone { payload, epoch, .. } => Some((payload.handler, epoch)),
+    let Released::Gone { payload, epoch, .. } = contexts.release(id) else {
+        unreachable!()
+    };
+    let Record { facts, handler, .. } = payload;
+    Ended {
+        key: facts.key,
+        handler,
+        epoch,
     }
 }
 

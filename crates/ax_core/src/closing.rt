@@ -8,16 +8,15 @@ ghost use Rattle.ax_execution.specs.ControlsAllowed.{IsOpenOn};
 ghost use Rattle.ax_core.specs.Views.{outs_of, settings_of};
 ghost use Rattle.ax_core.specs.May.{may_close, IsNext};
 ghost use Rattle.ax_core.specs.Epochs.{closing_of};
-ghost use Rattle.ax_core.specs.Closings.{barrier_left, Marks, MarksIf, MarksAll, books, current_count, every, is_free_at};
+ghost use Rattle.ax_core.specs.Closings.{barrier_left, Marks, MarksIf, MarksAll, books, current_count, every};
 ghost use Rattle.ax_core.specs.Sound.{rules_of, StandsFor, IsSound};
 ghost use Rattle.ax_core.specs.Events.{SameRules, KeysStay, Makes, SendsNext};
 ghost use Rattle.ax_core.specs.Numbers.{NoneNumbered};
 ghost use Rattle.ax_core.specs.Order.{Posts, idle_in, BecomeIdle, IdleBehind};
 
 use crate::controller::Controller;
-use ax_account::{Accounting, Next};
+use ax_account::Accounting;
 use ax_base::NoMemory;
-use ax_context::Id;
 use ax_keys::Key;
 use ax_time::epoch_laws::{counts_stay_law, one_epoch_law, sizes_law};
 use ax_time::{Epochs, Marker};
@@ -214,29 +213,9 @@ fn mark_if_free(
     ensures marks { OnOk result (MarksIf (is_free (part_of accounts.old key.now)) time key.now (books accounts.old epochs.old) (books accounts.new epochs.new)) }
     ensures count { OnOk result (current_count epochs.new ≤ current_count epochs.old + 1) }
 {
-    if is_free(accounts, key) {
+    if accounts.is_free(key) {
         mark_key(accounts, epochs, key, time)
     } else {
         Ok(())
-    }
-}
-
-// A key has no owner, and nothing waits for it.
-fn is_free(accounts: &Accounting, key: &Key) -> bool
-    ensures { result ≡ is_free (part_of accounts.now key.now) }
-{
-    let owner = accounts.owner(key);
-    let next = accounts.front(key);
-    is_free_at(owner, next)
-}
-
-// The same, by its owner and what waits in front.
-fn is_free_at(owner: Option<Id>, next: Next) -> bool
-    ensures { result ≡ is_free_at owner next }
-{
-    match next {
-        Next::Row { .. } => false,
-        Next::Mark { .. } => false,
-        Next::Free => owner.is_none(),
     }
 }
