@@ -212,7 +212,9 @@ pub fn give_in(
         Node::Wait { next, cursor, .. } => {
             let next = *next;
             let cursor = mem::replace(cursor, Vec::new(alloc));
-            resume(alloc, program, facts, used, next, answer, cursor, going, node)?;
+            resume(
+                alloc, program, facts, used, next, answer, cursor, going, node,
+            )?;
             Ok(())
         }
         Node::Arms { one, two, cursor } => {

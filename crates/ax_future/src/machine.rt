@@ -151,7 +151,15 @@ impl Machine {
         self.going.make_room(program.locals())?;
         let spare = self.going.renew(alloc);
         let cursor = only_in(spare, program.place_of(handler))?;
-        match begin(alloc, program, facts, &[], cursor, &mut self.going, &mut self.node) {
+        match begin(
+            alloc,
+            program,
+            facts,
+            &[],
+            cursor,
+            &mut self.going,
+            &mut self.node,
+        ) {
             Ok(()) => Ok(()),
             Err(fault) => {
                 self.node = Node::Done;
@@ -208,7 +216,15 @@ impl Machine {
     {
         let alloc = self.alloc;
         self.going.hush(alloc);
-        match give(alloc, program, facts, slot, answer, &mut self.going, &mut self.node) {
+        match give(
+            alloc,
+            program,
+            facts,
+            slot,
+            answer,
+            &mut self.going,
+            &mut self.node,
+        ) {
             Ok(()) => Ok(()),
             Err(fault) => {
                 self.node = Node::Done;

@@ -9,7 +9,6 @@ ghost use Rattle.ax_future.specs.Ways.{left_taken};
 
 use crate::node::{Assign, Cursor, Frame, Next, Node};
 use ax_base::NoMemory;
-use ax_text::Request;
 use std::alloc::Global;
 
 /// The answer that `first` waits for goes to `assign`: `thenApply`, and `thenAccept` where nothing takes it, of a state
