@@ -3,7 +3,7 @@ ghost use Rattle.std.specs.Prelude.{ℕ, List, ◌∷◌, ◌≡◌, ◌≤◌, 
 ghost use Rattle.ax_text.specs.Exprs.{Facts as AnyFacts};
 ghost use Rattle.ax_text.specs.Run.{with_names, take_in, turns_of, number_or};
 ghost use Rattle.ax_text.specs.Prints.{has};
-ghost use Rattle.ax_text.specs.Controls.{Turns, slots, also, begin, joined, resume, give_in, without};
+ghost use Rattle.ax_text.specs.Controls.{Turns, slots, also, begin, resume, give_in, without};
 ghost use Rattle.ax_lang.specs.declared.program.Program.{Program as AnyProgram};
 ghost use Rattle.ax_lang.specs.Forms.{shown_loop};
 ghost use Rattle.ax_lang.specs.Shown.{text_from};
@@ -17,11 +17,11 @@ use crate::callback::Known;
 use crate::going::{Going, assign};
 use crate::moves::put;
 use crate::node::{Assign, Cursor, Frame, Next, Node, Repeat};
-use crate::nodes::arms;
 use ax_base::{NoMemory, Pair, Pairs};
 use ax_lang::{Loop, Program};
 use ax_text::Answer;
 use std::alloc::Global;
+use std::mem;
 
 // The number of an answer, or the default.
 fn number_or(answer: &Answer, missing: i64) -> i64
@@ -128,37 +128,32 @@ fn resume(
     answer: Answer,
     cursor: Cursor,
     going: &mut Going,
-) -> Result<Node, NoMemory>
+    node: &mut Node,
+) -> Result<(), NoMemory>
     requires { length used.now + max (next_width (next_in program.now next)) (cursor_width (cursor_in program.now cursor.items)) ≤ 256 }
-    ensures { IfOk result (λ node. also (asks_in going.old.said.asks) (resume (known_in facts.now) (next_in program.now next) answer (cursor_in program.now cursor.items) used.now (talk_of going.old)) ≡ turn_of program.now going.new node) }
+    ensures { OnOk result (also (asks_in going.old.said.asks) (resume (known_in facts.now) (next_in program.now next) answer (cursor_in program.now cursor.items) used.now (talk_of going.old)) ≡ turn_of program.now going.new node.new) }
 {
     let mut cursor = cursor;
     accept(alloc, next, answer, &mut cursor, going)?;
-    let node = begin(alloc, program, facts, used, cursor, going)?;
-    Ok(node)
+    begin(alloc, program, facts, used, cursor, going, node)?;
+    Ok(())
 }
 
-// Two arms, and what goes on behind them.
-fn join(
+// Two arms have ended, and the text behind them goes on.
+fn go_on(
     alloc: Global,
     program: &Program,
     facts: &Known<'_>,
     used: &[u8],
-    one: Node,
-    two: Node,
     cursor: Cursor,
     going: &mut Going,
-) -> Result<Node, NoMemory>
+    node: &mut Node,
+) -> Result<(), NoMemory>
     requires { length used.now + cursor_width (cursor_in program.now cursor.items) ≤ 256 }
-    ensures { IfOk result (λ node. also (asks_in going.old.said.asks) (joined (control_in program.now one) (control_in program.now two) [] (cursor_in program.now cursor.items) (begin (known_in facts.now) (cursor_in program.now cursor.items) used.now) (talk_of going.old)) ≡ turn_of program.now going.new node) }
+    ensures { OnOk result (also (asks_in going.old.said.asks) (begin (known_in facts.now) (cursor_in program.now cursor.items) used.now (talk_of going.old)) ≡ turn_of program.now going.new node.new) }
 {
-    if are_done(&one, &two) {
-        let node = begin(alloc, program, facts, used, cursor, going)?;
-        Ok(node)
-    } else {
-        let node = arms(alloc, one, two, cursor)?;
-        Ok(node)
-    }
+    begin(alloc, program, facts, used, cursor, going, node)?;
+    Ok(())
 }
 
 /// Whether a node waits at a slot.
@@ -197,64 +192,46 @@ pub fn add_others(node: &Node, slot: u8, others: &mut Vec<u8>) -> Result<(), NoM
     }
 }
 
-/// The same as `give_in`. A lone wait is found with no look at slots.
-#[inline(always)]
-pub fn give(
-    alloc: Global,
-    program: &Program,
-    facts: &Known<'_>,
-    used: &[u8],
-    node: Node,
-    slot: u8,
-    answer: Answer,
-    going: &mut Going,
-) -> Result<Node, NoMemory>
-    requires { length used.now + control_width (control_in program.now node) ≤ 256 }
-    ensures { IfOk result (λ after. also (asks_in going.old.said.asks) (give_in (known_in facts.now) (control_in program.now node) slot answer used.now (talk_of going.old)) ≡ turn_of program.now going.new after) }
-{
-    match node {
-        Node::Wait { next, cursor, .. } => {
-            let after = resume(alloc, program, facts, used, next, answer, cursor, going)?;
-            Ok(after)
-        }
-        other => {
-            let after = give_in(alloc, program, facts, used, other, slot, answer, going)?;
-            Ok(after)
-        }
-    }
-}
-
-/// The wait of a slot takes an answer, and the handler goes on.
+/// The wait of a slot takes an answer, and the handler goes on, all in the place of its node. `used` are the slots of the
+/// other waits. After `NoMemory`, its only fault, the node is of no more use.
 pub fn give_in(
     alloc: Global,
     program: &Program,
     facts: &Known<'_>,
     used: &[u8],
-    node: Node,
     slot: u8,
     answer: Answer,
     going: &mut Going,
-) -> Result<Node, NoMemory>
-    requires { length used.now + control_width (control_in program.now node) ≤ 256 }
-    ensures { IfOk result (λ after. also (asks_in going.old.said.asks) (give_in (known_in facts.now) (control_in program.now node) slot answer used.now (talk_of going.old)) ≡ turn_of program.now going.new after) }
+    node: &mut Node,
+) -> Result<(), NoMemory>
+    requires { length used.now + control_width (control_in program.now node.old) ≤ 256 }
+    ensures { OnOk result (also (asks_in going.old.said.asks) (give_in (known_in facts.now) (control_in program.now node.old) slot answer used.now (talk_of going.old)) ≡ turn_of program.now going.new node.new) }
 {
     match node {
-        Node::Done => Ok(Node::Done),
+        Node::Done => Ok(()),
         Node::Wait { next, cursor, .. } => {
-            let after = resume(alloc, program, facts, used, next, answer, cursor, going)?;
-            Ok(after)
+            let next = *next;
+            let cursor = mem::replace(cursor, Vec::new(alloc));
+            resume(
+                alloc, program, facts, used, next, answer, cursor, going, node,
+            )?;
+            Ok(())
         }
         Node::Arms { one, two, cursor } => {
-            let one = Box::into_inner(one);
-            let two = Box::into_inner(two);
-            if waits_at(&one, slot) {
-                let one = give_in(alloc, program, facts, used, one, slot, answer, going)?;
-                let after = join(alloc, program, facts, used, one, two, cursor, going)?;
-                Ok(after)
+            if waits_at(one, slot) {
+                give_in(alloc, program, facts, used, slot, answer, going, one)?;
+                if are_done(one, two) {
+                    let cursor = mem::replace(cursor, Vec::new(alloc));
+                    go_on(alloc, program, facts, used, cursor, going, node)?;
+                }
+                Ok(())
             } else {
-                let two = give_in(alloc, program, facts, used, two, slot, answer, going)?;
-                let after = join(alloc, program, facts, used, one, two, cursor, going)?;
-                Ok(after)
+                give_in(alloc, program, facts, used, slot, answer, going, two)?;
+                if are_done(one, two) {
+                    let cursor = mem::replace(cursor, Vec::new(alloc));
+                    go_on(alloc, program, facts, used, cursor, going, node)?;
+                }
+                Ok(())
             }
         }
     }

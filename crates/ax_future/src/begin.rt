@@ -1,6 +1,6 @@
 //! How a handler begins, and goes on.
 ghost use Rattle.std.specs.Prelude.{◌≡◌, ◌≤◌, ◌<◌, ◌+◌, ◌++◌, ◌∷◌, [], ◌&&◌, length, IfOk, OnOk};
-ghost use Rattle.ax_text.specs.Controls.{Rest, slots, is_done, least_free, waits, also, begin};
+ghost use Rattle.ax_text.specs.Controls.{Rest, Arms, slots, is_done, least_free, waits, also, begin};
 ghost use Rattle.ax_text.specs.Programs.{width};
 ghost use Rattle.ax_lang.specs.declared.program.Program.{Program as AnyProgram};
 ghost use Rattle.ax_lang.specs.Shown.{text_from};
@@ -14,13 +14,13 @@ use crate::fresh::least_free;
 use crate::going::Going;
 use crate::moves::{Move, advance, put};
 use crate::node::{Cursor, Frame, Next, Node};
-use crate::nodes::{arms, asking};
 use ax_base::{Duplicate, NoMemory};
 use ax_lang::Program;
 use ax_text::Request;
 use std::alloc::Global;
 
-/// Goes on from a cursor until each live arm waits for an answer or has ended. `used` are the slots of the other waits.
+/// Goes on from a cursor until each live arm waits for an answer or has ended, and leaves in `node` where it stands then.
+/// `used` are the slots of the other waits.
 ///
 /// Condition: with as many waits as the text may have at once there are at most 256.
 #[cycle(begin)]
@@ -32,33 +32,37 @@ pub fn begin(
     used: &[u8],
     cursor: Cursor,
     going: &mut Going,
-) -> Result<Node, NoMemory>
+    node: &mut Node,
+) -> Result<(), NoMemory>
     requires { length used.now + cursor_width (cursor_in program.now cursor.items) ≤ 256 }
-    ensures { IfOk result (λ node. also (asks_in going.old.said.asks) (begin (known_in facts.now) (cursor_in program.now cursor.items) used.now (talk_of going.old)) ≡ turn_of program.now going.new node) }
+    ensures { OnOk result (also (asks_in going.old.said.asks) (begin (known_in facts.now) (cursor_in program.now cursor.items) used.now (talk_of going.old)) ≡ turn_of program.now going.new node.new) }
 {
     let mut cursor = cursor;
     loop {
         match advance(alloc, program, facts, &mut cursor, going)? {
             Move::End => {
                 going.spare = cursor;
-                return Ok(Node::Done);
+                *node = Node::Done;
+                return Ok(());
             }
             Move::Go => {}
-            Move::Wait { request, next } => return wait(alloc, used, request, next, cursor, going),
+            Move::Wait { request, next } => {
+                return wait(alloc, used, request, next, cursor, going, node);
+            }
             Move::Split { one, two } => {
                 let first = begin_arm(alloc, program, facts, used, one, going)?;
                 let more = with_slots(alloc, used, &first)?;
                 let second = begin_arm(alloc, program, facts, &more, two, going)?;
                 if !are_done(&first, &second) {
-                    let node = arms(alloc, first, second, cursor)?;
-                    return Ok(node);
+                    set_arms(node, first, second, cursor);
+                    return Ok(());
                 }
             }
         }
     }
 }
 
-// The text from a place on, as one arm of a `both`.
+// The text from a place on, as one arm of a `both`. It is made where it stays.
 #[cycle(begin)]
 fn begin_arm(
     alloc: Global,
@@ -67,16 +71,21 @@ fn begin_arm(
     used: &[u8],
     place: usize,
     going: &mut Going,
-) -> Result<Node, NoMemory>
+) -> Result<Box<Node>, NoMemory>
     requires { length used.now + width (text_from program.now place) ≤ 256 }
-    ensures { IfOk result (λ node. also (asks_in going.old.said.asks) (begin (known_in facts.now) (Rest (text_from program.now place) ∷ []) used.now (talk_of going.old)) ≡ turn_of program.now going.new node) }
+    ensures { IfOk result (λ node. also (asks_in going.old.said.asks) (begin (known_in facts.now) (Rest (text_from program.now place) ∷ []) used.now (talk_of going.old)) ≡ turn_of program.now going.new node.value) }
 {
+    let Ok(arm) = Box::new(alloc, Node::Done) else {
+        return Err(NoMemory);
+    };
+    let mut node = arm;
     let cursor = only_in(Vec::new(alloc), place)?;
-    let node = begin(alloc, program, facts, used, cursor, going)?;
+    begin(alloc, program, facts, used, cursor, going, &mut node)?;
     Ok(node)
 }
 
-// A request goes out at the least free slot, and its answer is waited for.
+// A request goes out at the least free slot, and its answer is waited for: what `compose` makes of a request with nothing
+// behind it.
 #[inline(always)]
 fn wait(
     alloc: Global,
@@ -85,9 +94,10 @@ fn wait(
     next: Next,
     cursor: Cursor,
     going: &mut Going,
-) -> Result<Node, NoMemory>
+    node: &mut Node,
+) -> Result<(), NoMemory>
     requires { length used.now < 256 }
-    ensures { IfOk result (λ node. (p : AnyProgram) → also (asks_in going.old.said.asks) (waits (least_free used.now) request (next_in p next) (cursor_in p cursor.items) (talk_of going.old)) ≡ turn_of p going.new node) }
+    ensures { OnOk result ((p : AnyProgram) → also (asks_in going.old.said.asks) (waits (least_free used.now) request (next_in p next) (cursor_in p cursor.items) (talk_of going.old)) ≡ turn_of p going.new node.new) }
 {
     let slot = least_free(used);
     let copied = request.copy(alloc)?;
@@ -95,8 +105,20 @@ fn wait(
         slot,
         request: copied,
     })?;
-    let node = asking(alloc, slot, request, next, cursor)?;
-    Ok(node)
+    *node = Node::Wait {
+        slot,
+        request,
+        next,
+        cursor,
+    };
+    Ok(())
+}
+
+// Two arms that wait side by side, and what goes on behind them: what `compose` makes of what `combine` makes of the arms.
+fn set_arms(node: &mut Node, one: Box<Node>, two: Box<Node>, cursor: Cursor)
+    ensures { (p : AnyProgram) → control_in p node.new ≡ Arms (control_in p one.value) (control_in p two.value) (cursor_in p cursor.items) }
+{
+    *node = Node::Arms { one, two, cursor };
 }
 
 /// The text from a place on, in the memory of a cursor that is no longer needed.

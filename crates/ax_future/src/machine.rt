@@ -1,17 +1,19 @@
 //! A handler on its way.
-ghost use Rattle.std.specs.Prelude.{◌≡◌, ◌≤◌, ◌↔◌, ◌∷◌, [], true, pos, ℕ, IsTrue, IfOk, OnOk, OnErr};
+ghost use Rattle.std.specs.Prelude.{◌≡◌, ◌≤◌, ◌+◌, ◌↔◌, ◌∷◌, [], true, pos, ℕ, length, IsTrue, IfOk, OnOk, OnErr};
 ghost use Rattle.ax_text.specs.Jobs.{text_for};
 ghost use Rattle.ax_text.specs.Prints.{has};
 ghost use Rattle.ax_text.specs.Silent.{silent};
 ghost use Rattle.ax_text.specs.Underway.{TakesLeast, SlotsRise};
-ghost use Rattle.ax_text.specs.Controls.{Rest, Done, slots, waiting, replaced, without, is_done, begin, give};
+ghost use Rattle.ax_text.specs.Controls.{Rest, Done, slots, waiting, replaced, without, is_done, also, begin, give_in, give};
 ghost use Rattle.ax_lang.specs.declared.program.Program.{Program as AnyProgram};
 ghost use Rattle.ax_lang.specs.Shown.{shown_program};
 ghost use Rattle.ax_future.specs.Least.{IsLeastWaiting};
+ghost use Rattle.ax_future.specs.Sizes.{control_width};
 ghost use Rattle.ax_future.specs.Nodes.{control_in};
-ghost use Rattle.ax_future.specs.Talks.{facts_in, known_in, asks_in};
+ghost use Rattle.ax_future.specs.Talks.{facts_in, known_in, talk_of, asks_in};
+ghost use Rattle.ax_future.specs.Moves.{turn_of};
 
-use crate::answers::{add_others, give, waits_at};
+use crate::answers::{add_others, give_in, waits_at};
 use crate::begin::{begin, only_in};
 use crate::callback::{Facts, Known, Turn};
 use crate::going::Going;
@@ -55,6 +57,25 @@ fn others_of(alloc: Global, node: &Node, slot: u8) -> Result<Vec<u8>, NoMemory>
     Ok(others)
 }
 
+// The wait of a slot takes an answer, and the handler goes on.
+#[inline(always)]
+fn give(
+    alloc: Global,
+    program: &Program,
+    facts: &Known<'_>,
+    slot: u8,
+    answer: Answer,
+    going: &mut Going,
+    node: &mut Node,
+) -> Result<(), NoMemory>
+    requires { length (without slot (slots (control_in program.now node.old))) + control_width (control_in program.now node.old) ≤ 256 }
+    ensures { OnOk result (also (asks_in going.old.said.asks) (give_in (known_in facts.now) (control_in program.now node.old) slot answer (without slot (slots (control_in program.now node.old))) (talk_of going.old)) ≡ turn_of program.now going.new node.new) }
+{
+    let others = others_of(alloc, node, slot)?;
+    give_in(alloc, program, facts, &others, slot, answer, going, node)?;
+    Ok(())
+}
+
 impl Machine {
     ghost use Rattle.ax_future.specs.Machines.{control_of, names_of, said_by, left_by, IsSound};
 
@@ -86,9 +107,28 @@ impl Machine {
         ensures rise { IfOk result (λ r. SlotsRise (asks_in r.1.asks)) }
     {
         let mut machine = Machine::new(alloc);
-        machine.restart(program, handler, &facts.known())?;
-        let turn = mem::replace(&mut machine.going.said, Turn::new(alloc));
+        let turn = machine.start_here(program, handler, facts)?;
         Ok((machine, turn))
+    }
+
+    /// Starts a handler, as `start` does, in the place of this machine: wherever it stood, that is over. After `NoMemory`, its
+    /// only fault, the machine waits for nothing.
+    pub fn start_here(
+        &mut self,
+        program: &Program,
+        handler: Handler,
+        facts: &Facts,
+    ) -> Result<Turn, NoMemory>
+        ensures turn { IfOk result (λ turn. begin (facts_in facts.now) (Rest (text_for (shown_program program.now) handler) ∷ []) [] (silent (λ i. pos 0)) ≡ left_by program.now self.new turn) }
+        ensures sound { OnOk result (IsSound program.now self.new) }
+        ensures asks { IfOk result (λ turn. waiting (control_of program.now self.new) ≡ asks_in turn.asks) }
+        ensures least { IfOk result (λ turn. TakesLeast [] (asks_in turn.asks)) }
+        ensures rise { IfOk result (λ turn. SlotsRise (asks_in turn.asks)) }
+        ensures stopped { OnErr result (control_of program.now self.new ≡ Done) }
+    {
+        self.restart(program, handler, &facts.known())?;
+        let turn = mem::replace(&mut self.going.said, Turn::new(self.alloc));
+        Ok(turn)
     }
 
     /// Starts a handler, as `start` does, in the memory of this machine: wherever it stood, that is over, and what it said is
@@ -111,9 +151,21 @@ impl Machine {
         self.going.make_room(program.locals())?;
         let spare = self.going.renew(alloc);
         let cursor = only_in(spare, program.place_of(handler))?;
-        let node = begin(alloc, program, facts, &[], cursor, &mut self.going)?;
-        self.node = node;
-        Ok(())
+        match begin(
+            alloc,
+            program,
+            facts,
+            &[],
+            cursor,
+            &mut self.going,
+            &mut self.node,
+        ) {
+            Ok(()) => Ok(()),
+            Err(fault) => {
+                self.node = Node::Done;
+                Err(fault)
+            }
+        }
     }
 
     /// Gives the answer of a slot, and runs on. What it asks is what waits then and didn't before. It takes time for
@@ -163,21 +215,22 @@ impl Machine {
         ensures stopped { OnErr result (control_of program.now self.new ≡ Done) }
     {
         let alloc = self.alloc;
-        let node = mem::replace(&mut self.node, Node::Done);
         self.going.hush(alloc);
-        let others = others_of(alloc, &node, slot)?;
-        let node = give(
+        match give(
             alloc,
             program,
             facts,
-            &others,
-            node,
             slot,
             answer,
             &mut self.going,
-        )?;
-        self.node = node;
-        Ok(())
+            &mut self.node,
+        ) {
+            Ok(()) => Ok(()),
+            Err(fault) => {
+                self.node = Node::Done;
+                Err(fault)
+            }
+        }
     }
 
     /// What the last callback said: that of the start, or of the answer that was given last.

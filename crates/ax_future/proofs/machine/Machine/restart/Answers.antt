@@ -14,27 +14,27 @@ begin-requires c =
     let p = c.args.program.now in
     start_room p c.args.handler [] (cursor_in p c.in_ok-cursor.cursor.items) (text_from p c.place_of.result) refl (c.in_ok-cursor.ensures.cursor p) c.place_of.ensures
 
-pub returns-clause-turn : goal.returns-clause-turn
-returns-clause-turn c =
+pub returns-in-Ok-clause-turn : goal.returns-in-Ok-clause-turn
+returns-in-Ok-clause-turn c =
     let p = c.args.program.now in
-    start_turn (known_in c.args.facts.now) [] (talk_of c.renew-spare.new.self) (asks_in c.renew-spare.new.self.said.asks) (turn_of p c.begin.new.going c.in_ok-node.node)
+    start_turn (known_in c.args.facts.now) [] (talk_of c.renew-spare.new.self) (asks_in c.renew-spare.new.self.said.asks) (turn_of p c.begin.new.going c.begin.new.node)
     (cursor_in p c.in_ok-cursor.cursor.items) (text_from p c.place_of.result) (text_for (shown_program p) c.args.handler) (λ i. pos 0)
-    (c.in_ok-cursor.ensures.cursor p) c.place_of.ensures refl (ap asks_in c.renew-spare.ensures.asks) c.renew-spare.ensures.talk c.in_ok-node.ensures
+    (c.in_ok-cursor.ensures.cursor p) c.place_of.ensures refl (ap asks_in c.renew-spare.ensures.asks) c.renew-spare.ensures.talk c.in-Ok.ensures
 
-pub returns-clause-sound : goal.returns-clause-sound
-returns-clause-sound c =
+pub returns-in-Ok-clause-sound : goal.returns-in-Ok-clause-sound
+returns-in-Ok-clause-sound c =
     let p = c.args.program.now in
-    start_sound p c.args.handler (known_in c.args.facts.now) (silent (λ i. pos 0)) (turn_of p c.begin.new.going c.in_ok-node.node) (returns-clause-turn c)
+    start_sound p c.args.handler (known_in c.args.facts.now) (silent (λ i. pos 0)) (turn_of p c.begin.new.going c.begin.new.node) (returns-in-Ok-clause-turn c)
 
-pub returns-clause-asks : goal.returns-clause-asks
-returns-clause-asks c =
+pub returns-in-Ok-clause-asks : goal.returns-in-Ok-clause-asks
+returns-in-Ok-clause-asks c =
     let p = c.args.program.now in
-    start_asks (known_in c.args.facts.now) (text_for (shown_program p) c.args.handler) (silent (λ i. pos 0)) (turn_of p c.begin.new.going c.in_ok-node.node) (returns-clause-turn c)
+    start_asks (known_in c.args.facts.now) (text_for (shown_program p) c.args.handler) (silent (λ i. pos 0)) (turn_of p c.begin.new.going c.begin.new.node) (returns-in-Ok-clause-turn c)
 
-pub returns-clause-least : goal.returns-clause-least
-returns-clause-least c =
+pub returns-in-Ok-clause-least : goal.returns-in-Ok-clause-least
+returns-in-Ok-clause-least c =
     let p = c.args.program.now in
-    start_least (known_in c.args.facts.now) (text_for (shown_program p) c.args.handler) (silent (λ i. pos 0)) (turn_of p c.begin.new.going c.in_ok-node.node) (returns-clause-turn c)
+    start_least (known_in c.args.facts.now) (text_for (shown_program p) c.args.handler) (silent (λ i. pos 0)) (turn_of p c.begin.new.going c.begin.new.node) (returns-in-Ok-clause-turn c)
 
-pub returns-clause-rise : goal.returns-clause-rise
-returns-clause-rise c = takes_rise [] (asks_in c.begin.new.going.said.asks) (returns-clause-least c)
+pub returns-in-Ok-clause-rise : goal.returns-in-Ok-clause-rise
+returns-in-Ok-clause-rise c = takes_rise [] (asks_in c.begin.new.going.said.asks) (returns-in-Ok-clause-least c)
