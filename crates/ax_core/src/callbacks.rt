@@ -217,12 +217,15 @@ impl Controller {
     }
 }
 
-// The handler of a context begins.
+// The handler of a context begins, in the place of its machine.
 fn begin(alloc: Global, program: &Program, record: &mut Record) -> Result<Turn, NoMemory>
     ensures { IfOk result (λ turn. Begins program.now record.old record.new turn) }
 {
-    let (machine, turn) = Machine::start(alloc, program, record.handler, &record.facts)?;
-    record.machine = Some(machine);
+    record.machine = Some(Machine::new(alloc));
+    let Some(machine) = &mut record.machine else {
+        unreachable!()
+    };
+    let turn = machine.start_here(program, record.handler, &record.facts)?;
     Ok(turn)
 }
 
