@@ -57,3 +57,4 @@ pub mod CallOrder
 pub mod BatchFits
 pub mod IdleKeys
 pub mod MailWaits
+pub mod Resting
