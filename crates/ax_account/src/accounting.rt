@@ -28,7 +28,7 @@ use std::marker::Model;
 /// grows is spread over the calls. Only `occupy`, `wait_mark` and `busy` take memory.
 #[derive(Drop)]
 pub struct Accounting {
-    alloc: Global,
+    pub(crate) alloc: Global,
     entries: BTreeMap<Key, Entry>,
     idle: KeyQueue,
 }

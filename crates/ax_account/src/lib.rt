@@ -5,6 +5,7 @@
 //! - `accounting`: `Accounting`, the accounts of all keys. Contracts see, for each key, an owner or
 //!   none and a list of waiting rows and marks, beside the list of idle keys, which nobody owns and
 //!   whose mark in front waits to be fired.
+//! - `laws`: what holds of the accounts at every moment.
 //!
 //! The private modules `entry` and `idle` hold what is kept of one key, and a list of distinct keys
 //! that a key can leave from anywhere.
@@ -13,6 +14,7 @@
 pub mod accounting;
 mod entry;
 mod idle;
+pub mod laws;
 pub mod part;
 
 pub use accounting::Accounting;

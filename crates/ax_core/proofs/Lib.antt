@@ -56,3 +56,4 @@ pub mod CallOrder
 pub mod BatchFits
 pub mod IdleKeys
 pub mod MailWaits
+pub mod Resting

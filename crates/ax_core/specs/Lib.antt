@@ -18,3 +18,4 @@ pub mod Order
 pub mod Requests
 pub mod Numbers
 pub mod Posted
+pub mod Rest

@@ -1,11 +1,13 @@
 //! What holds of a controller between its calls. Each is the contract of a function that does nothing, which a caller's proof may cite.
-ghost use Rattle.std.specs.Prelude.{◌≡◌, ◌↔◌, ◌<◌, ◌-◌, ◌^◌, ℕ, List, length};
+ghost use Rattle.std.specs.Prelude.{◌≡◌, ◌↔◌, ◌<◌, ◌-◌, ◌^◌, ℕ, true, List, length};
 ghost use Rattle.std.specs.List.{Contains, IsDistinct};
 ghost use Rattle.ax_machine.specs.Entries.{Key};
-ghost use Rattle.ax_execution.specs.Machine.{Start, Serve, Deliver};
-ghost use Rattle.ax_execution.specs.MachineControls.{MachineControl};
+ghost use Rattle.ax_execution.specs.Machine.{Happening, Start, Serve, Deliver, IsWork};
+ghost use Rattle.ax_execution.specs.MachineControls.{MachineControl, in_flight_on};
 ghost use Rattle.ax_execution.specs.ControlsAllowed.{AllowedOn};
+ghost use Rattle.ax_execution.specs.ControlRest.{IsAtRestOn};
 ghost use Rattle.ax_core.specs.Views.{settings_of};
+ghost use Rattle.ax_core.specs.May.{may_admit};
 ghost use Rattle.ax_core.specs.Sound.{rules_of, StandsFor, IsSound};
 ghost use Rattle.ax_core.specs.declared.controller.Controller.{Controller as AnyController};
 ghost use Rattle.ax_core.specs.Numbers.{NothingNumbered, Call, AreCalls, numbers_of, numbers_from};
@@ -13,9 +15,11 @@ ghost use Rattle.ax_core.specs.declared.effects.Ran.{Ran as AnyRan};
 ghost use Rattle.ax_core.specs.declared.effects.Ran.TheVariants as ran;
 ghost use Rattle.ax_core.specs.Order.{Asked, callbacks_in};
 ghost use Rattle.ax_core.specs.Posted.{IsPosted, IsToRun, same_callback};
+ghost use Rattle.ax_core.specs.Rest.{NothingIsOnTheWay, NothingIsLeft};
 ghost use Rattle.ax_core.specs.Requests.{requests_in, all_requests, same_asked, IsQueuedOrOut, IsUnserved};
 
 use crate::controller::Controller;
+use ax_account::laws::accounts_law;
 use ax_context::laws::numbers_law;
 
 /// A request may be served exactly where it waits in the queue of its key's shard or is out of it: whatever was asked and wasn't
@@ -51,3 +55,17 @@ pub fn contexts_are_counted()
     ensures { (a : AnyController) (calls : List Call) → NothingNumbered a → AreCalls a calls → length (numbers_of calls) < 2 ^ 64 - 1
         → numbers_of calls ≡ numbers_from 1 (length (numbers_of calls)) }
 {}
+
+/// A controller is never stuck. While a context is in flight, a callback is to run, a request waits in a queue or one is out, and only then.
+/// Where nothing is on its way, no key may fire and no marker is to be sent, there nothing is in flight, every key is free, every marker is
+/// sent, and a row may come; and only there. That is exactly where the machine can do nothing by itself.
+pub fn never_stuck(controller: &Controller)
+    requires sound { IsSound controller.now }
+    ensures flight { (m : MachineControl) → StandsFor controller.now m → NothingIsOnTheWay controller.now ↔ (in_flight_on m ≡ 0) }
+    ensures rest { (m : MachineControl) → StandsFor controller.now m → 0 < (settings_of controller.now).in_flight → NothingIsLeft controller.now m ↔ IsAtRestOn m }
+    ensures goes_on { (m : MachineControl) → StandsFor controller.now m → 0 < (settings_of controller.now).in_flight → NothingIsLeft controller.now m → may_admit controller.now ≡ true }
+    ensures work { (m : MachineControl) → StandsFor controller.now m → 0 < (settings_of controller.now).in_flight
+        → NothingIsLeft controller.now m ↔ ((e : Happening) → IsWork e → AllowedOn (rules_of (settings_of controller.now)) e m → ⊥) }
+{
+    accounts_law(&controller.accounts);
+}

@@ -46,3 +46,4 @@ pub mod Stuck
 pub mod Upto
 pub mod Work
 pub mod WholeRuns
+pub mod ControlStuck

@@ -22,3 +22,4 @@ pub mod Rows
 pub mod EdgeRows
 pub mod Reached
 pub mod OwedChanges
+pub mod ControlRest

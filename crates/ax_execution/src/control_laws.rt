@@ -1,5 +1,5 @@
 //! Laws of the controls that are reached: by events that are allowed each at its place, from an origin, whatever the cells answered.
-ghost use Rattle.std.specs.Prelude.{◌≡◌, ℕ, ◌+◌, ◌≤◌, ◌<◌, List, [], ◌∷◌, length, true, Option, Some};
+ghost use Rattle.std.specs.Prelude.{◌≡◌, ◌↔◌, ℕ, ◌+◌, ◌≤◌, ◌<◌, List, [], ◌∷◌, length, true, Option, Some, None};
 ghost use Rattle.ax_text.specs.declared.vocabulary.Answer.{Answer};
 ghost use Rattle.ax_text.specs.Programs.{Program};
 ghost use Rattle.ax_text.specs.Controls.{slots};
@@ -10,12 +10,13 @@ ghost use Rattle.ax_execution.specs.Asks.{owner_waits, waits_behind, AreOutside,
 ghost use Rattle.ax_execution.specs.Contexts.{Running, Begun, Context};
 ghost use Rattle.ax_execution.specs.Counts.{references, one_if_gone, made, made_as, counted};
 ghost use Rattle.ax_execution.specs.Origins.{Origin, IsOrigin};
-ghost use Rattle.ax_execution.specs.Machine.{Closed, Happening, Start, Deliver, Rules, machine_from, machine_of};
+ghost use Rattle.ax_execution.specs.Machine.{Closed, Happening, Start, Deliver, Rules, machine_from, machine_of, IsWork};
 ghost use Rattle.ax_execution.specs.Allowed.{IsRun};
 ghost use Rattle.ax_execution.specs.MachineControls.{MachineControl, control_of_machine, at_origin, happens_on, outcome_on, in_flight_on, epoch_count_on, number_count_on, reference_count_on};
-ghost use Rattle.ax_execution.specs.ControlsAllowed.{IsFinishedOn, AllowedOn, IsAnswered, allowed_on, over_keys, HoldBusy};
+ghost use Rattle.ax_execution.specs.ControlsAllowed.{NoneIsIdleOn, IsFinishedOn, FirstIsFinishedOn, AllowedOn, IsAnswered, allowed_on, over_keys, HoldBusy};
 ghost use Rattle.ax_execution.specs.ControlChanges.{calls_on, enters, leaves};
 ghost use Rattle.ax_execution.specs.ControlOrder.{IsInOrder, AreSound};
+ghost use Rattle.ax_execution.specs.ControlRest.{IsAtRestOn};
 ghost use Rattle.ax_execution.specs.Reached.{IsReached, owed_in, IsOrderly};
 ghost use Rattle.ax_execution.specs.OwedChanges.{owed_more, owed_less};
 
@@ -103,4 +104,19 @@ pub fn reached_asks_are_what_waits()
     ensures new { (r : Rules) (p : Program) (m : MachineControl) (k : Key) (slot : ℕ) → AreAccepted p → IsReached r p m → AllowedOn r (Deliver k slot) m
         → AreOutside (slots_beside slot (owner_waits (m.controls k).owner)) (outcome_on p (Deliver k slot) m).asks }
     ensures none { (p : Program) (e : Happening) (m : MachineControl) → ((k : Key) → e ≡ Start k → ⊥) → ((k : Key) (slot : ℕ) → e ≡ Deliver k slot → ⊥) → (outcome_on p e m).asks ≡ [] }
+{}
+
+/// With room for one context a control is never stuck: where no event is allowed that takes nothing of the input, nothing is in flight, every
+/// key is free and every marker is sent; and there none is allowed. Between two callbacks nothing is in flight exactly where no request waits
+/// and no handler is to begin; where besides no key may fire and no marker is to be sent, nothing is left. Nothing is left exactly where
+/// nothing is in flight and every marker is sent, and there no key waits to fire.
+pub fn reached_controls_are_never_stuck()
+    ensures stuck { (r : Rules) (p : Program) (m : MachineControl) → AreAccepted p → IsReached r p m → 0 < r.limit
+        → ((e : Happening) → IsWork e → AllowedOn r e m → ⊥) → IsAtRestOn m }
+    ensures blocked { (r : Rules) (m : MachineControl) (e : Happening) → IsAtRestOn m → IsWork e → AllowedOn r e m → ⊥ }
+    ensures owed { (r : Rules) (p : Program) (m : MachineControl) → AreAccepted p → IsReached r p m → m.must ≡ None → (owed_in m ≡ 0) ↔ (in_flight_on m ≡ 0) }
+    ensures quiet { (r : Rules) (p : Program) (m : MachineControl) → AreAccepted p → IsReached r p m → in_flight_on m ≡ 0
+        → NoneIsIdleOn m → (FirstIsFinishedOn m.unsent m → ⊥) → IsAtRestOn m }
+    ensures enough { (r : Rules) (p : Program) (m : MachineControl) → AreAccepted p → IsReached r p m → in_flight_on m ≡ 0 → m.unsent ≡ [] → IsAtRestOn m }
+    ensures needed { (m : MachineControl) → IsAtRestOn m → (in_flight_on m ≡ 0) × (m.unsent ≡ []) × NoneIsIdleOn m }
 {}
