@@ -6,7 +6,7 @@ ghost use Rattle.ax_context.specs.Slots.{Has, IsLive, live_count};
 ghost use Rattle.ax_buffer.specs.Buffer.{total};
 ghost use Rattle.ax_account.specs.Parts.{next_of, taken_up};
 ghost use Rattle.ax_account.specs.Queues.{has_key};
-ghost use Rattle.ax_account.specs.Accounts.{waiting_of, owner_of, AreSound, Changes};
+ghost use Rattle.ax_account.specs.Accounts.{waiting_of, owner_of, Changes};
 ghost use Rattle.ax_execution.specs.Contexts as times;
 ghost use Rattle.ax_execution.specs.MachineControls.{MachineControl};
 ghost use Rattle.ax_core.specs.Views.{outs_of};
@@ -22,6 +22,7 @@ ghost use Rattle.ax_core.specs.Calls.{IsLast, CallEnds, IsReady, MayStart, MayRe
 use crate::controller::Controller;
 use crate::effects::{Effects, Fired, Ran};
 use crate::record::Record;
+use ax_account::laws::accounts_law;
 use ax_account::{Accounting, MOST_FIRINGS, Next};
 use ax_base::{Duplicate, NoMemory};
 use ax_buffer::{Item, RequestBuffer};
@@ -401,13 +402,6 @@ fn ending_epoch(timers: &Timers, key: &Key, next: Next) -> Option<u64>
     }
 }
 
-// Each key that is idle has no owner, and a mark in front.
-fn idle_law(accounts: &Accounting)
-    ensures { AreSound accounts.now }
-{
-    let _ = accounts.first_idle();
-}
-
 // A key whose owner is given up: the marks in front that fire nothing end. Tells what comes next.
 fn hand_over(accounts: &mut Accounting, epochs: &mut Epochs, timers: &Timers, key: &Key) -> Next
     requires owner { IsSome (owner_of accounts.old key.now) }
@@ -418,7 +412,7 @@ fn hand_over(accounts: &mut Accounting, epochs: &mut Epochs, timers: &Timers, ke
     ensures busy { has_key accounts.new.idle key.now ≡ false }
     ensures epochs { epochs.new ≡ all_left (ended (times_of timers.now key.now) (waiting_of accounts.old key.now)) epochs.old }
 {
-    idle_law(accounts);
+    accounts_law(accounts);
     let mut next = accounts.release(key);
     while let Some(epoch) = ending_epoch(timers, key, next) {
         next = accounts.end_mark(key);

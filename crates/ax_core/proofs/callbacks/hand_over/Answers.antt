@@ -12,9 +12,9 @@ loop-epoch-preserved c = goes c.args.key.now (times_of c.args.timers.now c.args.
     c.end_mark-next.ensures.next c.end_mark-next.ensures.part c.end_mark-next.ensures.idle c.leave.ensures
 
 pub returns-clause-idle : goal.returns-clause-idle
-returns-clause-idle c = c.loop-epoch.invariant.idle (owned_busy c.args.accounts.now c.args.key.now c.idle_law.ensures c.requires.owner)
+returns-clause-idle c = c.loop-epoch.invariant.idle (owned_busy c.args.accounts.now c.args.key.now c.accounts_law.ensures c.requires.owner)
 
 pub returns-clause-busy : goal.returns-clause-busy
 returns-clause-busy c =
-    let busy : has_key c.args.accounts.now.idle c.args.key.now ≡ false = owned_busy c.args.accounts.now c.args.key.now c.idle_law.ensures c.requires.owner in
+    let busy : has_key c.args.accounts.now.idle c.args.key.now ≡ false = owned_busy c.args.accounts.now c.args.key.now c.accounts_law.ensures c.requires.owner in
     ap (λ (ks : List Key). has_key ks c.args.key.now) (c.loop-epoch.invariant.idle busy) ∙ busy
