@@ -57,3 +57,4 @@ pub mod BatchFits
 pub mod IdleKeys
 pub mod MailWaits
 pub mod Resting
+pub mod AllRequests

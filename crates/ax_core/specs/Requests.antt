@@ -47,3 +47,9 @@ pub record IsUnserved (a : Controller) (m : MachineControl) (place : ℕ) (r : A
   pub shard : shard_of (settings_of a) key ≡ place
   pub owner : IsOwnedBy r.context (m.controls key).owner
   pub may : AllowedOn (rules_of (settings_of a)) (Serve key r.slot) m
+
+-- that, of any shard
+pub record IsToServe (a : Controller) (m : MachineControl) (r : Asked) : Type 0 where
+  pub key : Key
+  pub owner : IsOwnedBy r.context (m.controls key).owner
+  pub may : AllowedOn (rules_of (settings_of a)) (Serve key r.slot) m

@@ -16,7 +16,7 @@ ghost use Rattle.ax_core.specs.declared.effects.Ran.TheVariants as ran;
 ghost use Rattle.ax_core.specs.Order.{Asked, callbacks_in};
 ghost use Rattle.ax_core.specs.Posted.{IsPosted, IsToRun, same_callback};
 ghost use Rattle.ax_core.specs.Rest.{NothingIsOnTheWay, NothingIsLeft};
-ghost use Rattle.ax_core.specs.Requests.{requests_in, all_requests, same_asked, IsQueuedOrOut, IsUnserved};
+ghost use Rattle.ax_core.specs.Requests.{requests_in, all_requests, same_asked, IsQueuedOrOut, IsUnserved, IsToServe};
 
 use crate::controller::Controller;
 use ax_account::laws::accounts_law;
@@ -30,6 +30,7 @@ pub fn requests_stand_until_served(controller: &Controller)
         → AllowedOn (rules_of (settings_of controller.now)) (Serve key slot) m ↔ IsQueuedOrOut controller.now key slot (m.controls key).owner }
     ensures unserved { (m : MachineControl) (shard : ℕ) (r : Asked) → StandsFor controller.now m
         → Contains (requests_in controller.now shard) r ↔ IsUnserved controller.now m shard r }
+    ensures all { (m : MachineControl) (r : Asked) → StandsFor controller.now m → Contains (all_requests controller.now) r ↔ IsToServe controller.now m r }
     ensures once { IsDistinct same_asked (all_requests controller.now) }
 {
     numbers_law(&controller.contexts);

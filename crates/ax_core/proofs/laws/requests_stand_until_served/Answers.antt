@@ -1,4 +1,5 @@
 use Rattle.ax_core.proofs.Unserved.{unserved, queued_or_out, stands_there, allowed_where, requests_once}
+use Rattle.ax_core.proofs.AllRequests.{all_to_serve, to_serve_all}
 use Rattle.ax_core.proofs.laws.requests_stand_until_served.Goals as goal
 
 pub returns-clause-served : goal.returns-clause-served
@@ -11,3 +12,7 @@ returns-clause-unserved c m shard r x =
 
 pub returns-clause-once : goal.returns-clause-once
 returns-clause-once c = requests_once c.args.controller.now c.requires.sound.flow c.numbers_law.ensures
+
+pub returns-clause-all : goal.returns-clause-all
+returns-clause-all c m r x =
+    (all_to_serve c.args.controller.now m c.requires.sound.flow x r, to_serve_all c.args.controller.now m c.requires.sound.ranges c.requires.sound.flow x r)
