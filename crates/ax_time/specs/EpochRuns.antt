@@ -1,7 +1,7 @@
 -- Several calls on the epochs, one after the other.
 use Rattle.std.specs.Prelude.{◌≡◌, ℕ, ◌+◌, ◌-◌, ◌%◌, ◌^◌, ◌<◌, ◌==◌, if◌then◌else◌, List, [], ◌∷◌, ◌++◌, length, Option, None, Some}
 use Rattle.ax_time.specs.declared.epoch.Marker.{Marker}
-use Rattle.ax_time.specs.Epochs.{Book, Fits64, fresh, current_of, IsOpen, count_of, with_count, closed_by, next_action, taken, markers_of, work_of}
+use Rattle.ax_time.specs.Epochs.{Book, fresh, current_of, place_of, IsOpen, count_at, count_of, with_count, closed_by, next_action, taken, markers_of, work_of}
 
 -- a call that went well
 pub data Call : Type 0 where
@@ -79,38 +79,27 @@ abbrev pub left : List Call → ℕ
 left [] = 0
 left (call ∷ calls) = left_by call + left calls
 
--- how much work entered one epoch, and how much left it
-abbrev pub entered_there_by : ℕ → Call → ℕ
-entered_there_by epoch (Enter other) = if other == epoch then 1 else 0
-entered_there_by epoch (Leave other) = 0
-entered_there_by epoch (Close m) = 0
-entered_there_by epoch Take = 0
+-- how much work a call brings into the epoch that was begun after so many others, and how much it takes out, where the final actions of so many epochs are taken
+abbrev pub entered_nth_by : ℕ → ℕ → Call → Book → ℕ
+entered_nth_by nth gone (Enter epoch) book = if gone + place_of book epoch == nth then 1 else 0
+entered_nth_by nth gone (Leave epoch) book = 0
+entered_nth_by nth gone (Close m) book = 0
+entered_nth_by nth gone Take book = 0
 
-abbrev pub left_there_by : ℕ → Call → ℕ
-left_there_by epoch (Enter other) = 0
-left_there_by epoch (Leave other) = if other == epoch then 1 else 0
-left_there_by epoch (Close m) = 0
-left_there_by epoch Take = 0
+abbrev pub left_nth_by : ℕ → ℕ → Call → Book → ℕ
+left_nth_by nth gone (Enter epoch) book = 0
+left_nth_by nth gone (Leave epoch) book = if gone + place_of book epoch == nth then 1 else 0
+left_nth_by nth gone (Close m) book = 0
+left_nth_by nth gone Take book = 0
 
-abbrev pub entered_there : ℕ → List Call → ℕ
-entered_there epoch [] = 0
-entered_there epoch (call ∷ calls) = entered_there_by epoch call + entered_there epoch calls
+-- how much entered it, and how much left it
+abbrev pub entered_nth : ℕ → ℕ → List Call → Book → ℕ
+entered_nth nth gone [] book = 0
+entered_nth nth gone (call ∷ calls) book = entered_nth_by nth gone call book + entered_nth nth (gone + length (taken_by call book)) calls (after call book)
 
-abbrev pub left_there : ℕ → List Call → ℕ
-left_there epoch [] = 0
-left_there epoch (call ∷ calls) = left_there_by epoch call + left_there epoch calls
-
--- the epoch that a call names has a number of 64 bits
-abbrev pub NumberFits : Call → Type 0
-NumberFits (Enter epoch) = epoch < 2 ^ 64
-NumberFits (Leave epoch) = epoch < 2 ^ 64
-NumberFits (Close m) = Unit {0}
-NumberFits Take = Unit {0}
-
--- at each of these calls the numbers fit 64 bits
-abbrev pub AllFit : List Call → Book → Type 0
-AllFit [] book = Unit {0}
-AllFit (call ∷ calls) book = Fits64 book × NumberFits call × AllFit calls (after call book)
+abbrev pub left_nth : ℕ → ℕ → List Call → Book → ℕ
+left_nth nth gone [] book = 0
+left_nth nth gone (call ∷ calls) book = left_nth_by nth gone call book + left_nth nth (gone + length (taken_by call book)) calls (after call book)
 
 -- from no epochs on: actions are taken in the order of the epochs, each once; epochs are numbered from 0; the work is what entered and has not left
 pub record Keeps (calls : List Call) (book : Book) : Type 0 where
@@ -119,6 +108,9 @@ pub record Keeps (calls : List Call) (book : Book) : Type 0 where
   pub current : current_of book ≡ length (actions_given calls) % 2 ^ 64
   pub work : entered calls ≡ left calls + work_of book
 
--- what entered an epoch is what left it and its work
-abbrev pub KeepsEach : List Call → Book → Type 0
-KeepsEach calls book = (epoch : ℕ) → epoch < 2 ^ 64 → entered_there epoch calls ≡ left_there epoch calls + count_of book epoch
+-- what entered an epoch has left it where its final action was taken, and is else what left it and its work; epochs are numbered in the order in which they begin
+pub record KeepsEach (calls : List Call) (book : Book) : Type 0 where
+  pub gone : (nth : ℕ) → nth < length (actions_taken calls fresh) → entered_nth nth 0 calls fresh ≡ left_nth nth 0 calls fresh
+  pub rest : (place : ℕ) → entered_nth (length (actions_taken calls fresh) + place) 0 calls fresh
+      ≡ left_nth (length (actions_taken calls fresh) + place) 0 calls fresh + count_at book.closed book.count place
+  pub number : (epoch : ℕ) → epoch < 2 ^ 64 → (length (actions_taken calls fresh) + place_of book epoch) % 2 ^ 64 ≡ epoch

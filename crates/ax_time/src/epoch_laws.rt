@@ -3,7 +3,7 @@ ghost use Rattle.std.specs.Prelude.{◌≡◌, ℕ, ◌+◌, ◌-◌, ◌%◌, �
 ghost use Rattle.ax_time.specs.declared.epoch.Closed.{Closed};
 ghost use Rattle.ax_time.specs.declared.epoch.Marker.{Marker};
 ghost use Rattle.ax_time.specs.Epochs.{Book, Fits64, fresh, place_of, age_of, IsOpen, count_at, count_of, with_count, closed_by, is_finished, next_action, taken, markers_of};
-ghost use Rattle.ax_time.specs.EpochRuns.{Call, AllWanted, AllFit, book_after, Keeps, KeepsEach};
+ghost use Rattle.ax_time.specs.EpochRuns.{Call, AllWanted, book_after, Keeps, KeepsEach};
 
 use crate::epochs::Epochs;
 
@@ -56,9 +56,10 @@ pub fn finished_in_order_law()
 
 /// From `new` on, whatever calls went well: the final actions that were taken, and then those that are left, are those that were
 /// given to `close`, in order; the oldest epoch has the number of the actions taken, and the current one that of the calls of
-/// `close`, wrapping; and the counts of all epochs are together the work that entered and has not left. While the numbers fit 64
-/// bits, the count of each epoch is what entered there and has not left.
+/// `close`, wrapping; and the counts of all epochs are together the work that entered and has not left. The count of each epoch is
+/// what entered there and has not left, and nothing is left of one whose final action was taken; epochs have their numbers in the
+/// order in which they begin, wrapping.
 pub fn epochs_law()
     ensures all { (calls : List Call) → AllWanted calls fresh → Keeps calls (book_after calls fresh) }
-    ensures each { (calls : List Call) → AllWanted calls fresh → AllFit calls fresh → KeepsEach calls (book_after calls fresh) }
+    ensures each { (calls : List Call) → AllWanted calls fresh → KeepsEach calls (book_after calls fresh) }
 {}

@@ -1,6 +1,6 @@
 use Rattle.std.proofs.Common.{arith}
 use Rattle.ax_time.specs.Epochs.{fresh}
-use Rattle.ax_time.proofs.EachLemmas.{each_kept, run_current}
+use Rattle.ax_time.proofs.EachLemmas.{gone_kept, rest_kept, number_kept, run_current}
 use Rattle.ax_time.proofs.RunLemmas.{run_markers, run_oldest, run_work}
 use Rattle.ax_time.proofs.epoch_laws.epochs_law.Goals as goal
 
@@ -13,4 +13,8 @@ returns-clause-all c = λ calls wanted. record {
 }
 
 pub returns-clause-each : goal.returns-clause-each
-returns-clause-each c = λ calls wanted fit epoch e. each_kept calls epoch wanted fit e
+returns-clause-each c = λ calls wanted. record {
+  gone = λ nth h. gone_kept calls nth wanted h;
+  rest = λ place. rest_kept calls place wanted;
+  number = λ epoch e. number_kept calls epoch e;
+}
