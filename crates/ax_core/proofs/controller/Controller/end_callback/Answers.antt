@@ -1,4 +1,4 @@
-use Rattle.std.proofs.Common.{◌≡◌, ◌≤◌, ◌<◌, ◌+◌, length, arith}
+use Rattle.std.proofs.Common.{◌≡◌, ◌≤◌, ◌<◌, length, arith}
 use Rattle.ax_context.specs.Slots.{at}
 use Rattle.ax_core.proofs.AskLemmas.{some_left}
 use Rattle.ax_core.proofs.GetLemmas.{some_and}
