@@ -1,6 +1,6 @@
 //! How a handler begins, and goes on.
 ghost use Rattle.std.specs.Prelude.{◌≡◌, ◌≤◌, ◌<◌, ◌+◌, ◌++◌, ◌∷◌, [], ◌&&◌, length, IfOk, OnOk};
-ghost use Rattle.ax_text.specs.Controls.{Rest, Arms, slots, is_done, least_free, waits, also, begin};
+ghost use Rattle.ax_text.specs.Controls.{Rest, slots, is_done, least_free, waits, also, begin};
 ghost use Rattle.ax_text.specs.Programs.{width};
 ghost use Rattle.ax_lang.specs.declared.program.Program.{Program as AnyProgram};
 ghost use Rattle.ax_lang.specs.Shown.{text_from};
@@ -14,6 +14,7 @@ use crate::fresh::least_free;
 use crate::going::Going;
 use crate::moves::{Move, advance, put};
 use crate::node::{Cursor, Frame, Next, Node};
+use crate::nodes::{arms, asking};
 use ax_base::{Duplicate, NoMemory};
 use ax_lang::Program;
 use ax_text::Request;
@@ -54,7 +55,8 @@ pub fn begin(
                 let more = with_slots(alloc, used, &first)?;
                 let second = begin_arm(alloc, program, facts, &more, two, going)?;
                 if !are_done(&first, &second) {
-                    set_arms(node, first, second, cursor);
+                    let both = arms(alloc, first, second, cursor)?;
+                    *node = both;
                     return Ok(());
                 }
             }
@@ -62,7 +64,7 @@ pub fn begin(
     }
 }
 
-// The text from a place on, as one arm of a `both`. It is made where it stays.
+// The text from a place on, as one arm of a `both`.
 #[cycle(begin)]
 fn begin_arm(
     alloc: Global,
@@ -71,21 +73,17 @@ fn begin_arm(
     used: &[u8],
     place: usize,
     going: &mut Going,
-) -> Result<Box<Node>, NoMemory>
+) -> Result<Node, NoMemory>
     requires { length used.now + width (text_from program.now place) ≤ 256 }
-    ensures { IfOk result (λ node. also (asks_in going.old.said.asks) (begin (known_in facts.now) (Rest (text_from program.now place) ∷ []) used.now (talk_of going.old)) ≡ turn_of program.now going.new node.value) }
+    ensures { IfOk result (λ node. also (asks_in going.old.said.asks) (begin (known_in facts.now) (Rest (text_from program.now place) ∷ []) used.now (talk_of going.old)) ≡ turn_of program.now going.new node) }
 {
-    let Ok(arm) = Box::new(alloc, Node::Done) else {
-        return Err(NoMemory);
-    };
-    let mut node = arm;
+    let mut node = Node::Done;
     let cursor = only_in(Vec::new(alloc), place)?;
     begin(alloc, program, facts, used, cursor, going, &mut node)?;
     Ok(node)
 }
 
-// A request goes out at the least free slot, and its answer is waited for: what `compose` makes of a request with nothing
-// behind it.
+// A request goes out at the least free slot, and its answer is waited for.
 #[inline(always)]
 fn wait(
     alloc: Global,
@@ -105,20 +103,9 @@ fn wait(
         slot,
         request: copied,
     })?;
-    *node = Node::Wait {
-        slot,
-        request,
-        next,
-        cursor,
-    };
+    let waiting = asking(alloc, slot, request, next, cursor)?;
+    *node = waiting;
     Ok(())
-}
-
-// Two arms that wait side by side, and what goes on behind them: what `compose` makes of what `combine` makes of the arms.
-fn set_arms(node: &mut Node, one: Box<Node>, two: Box<Node>, cursor: Cursor)
-    ensures { (p : AnyProgram) → control_in p node.new ≡ Arms (control_in p one.value) (control_in p two.value) (cursor_in p cursor.items) }
-{
-    *node = Node::Arms { one, two, cursor };
 }
 
 /// The text from a place on, in the memory of a cursor that is no longer needed.

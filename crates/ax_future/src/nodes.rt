@@ -2,13 +2,14 @@
 ghost use Rattle.std.specs.Prelude.{◌≡◌, ◌++◌, [], IsOk, IfOk, OnOk};
 ghost use Rattle.ax_text.specs.Exprs.{Facts as AnyFacts};
 ghost use Rattle.ax_text.specs.Run.{World};
-ghost use Rattle.ax_text.specs.Controls.{Answers, Arms, taken_by, compose, combine, left as what_is_left, run_cursor};
+ghost use Rattle.ax_text.specs.Controls.{Answers, Arms, Wait as WaitsFor, taken_by, compose, combine, left as what_is_left, run_cursor};
 ghost use Rattle.ax_lang.specs.declared.program.Program.{Program as AnyProgram};
-ghost use Rattle.ax_future.specs.Nodes.{cursor_in, after_in, control_in};
+ghost use Rattle.ax_future.specs.Nodes.{cursor_in, after_in, next_in, control_in};
 ghost use Rattle.ax_future.specs.Ways.{left_taken};
 
 use crate::node::{Assign, Cursor, Frame, Next, Node};
 use ax_base::NoMemory;
+use ax_text::Request;
 use std::alloc::Global;
 
 /// The answer that `first` waits for goes to `assign`: `thenApply`, and `thenAccept` where nothing takes it, of a state
@@ -74,6 +75,49 @@ pub fn combine(alloc: Global, left: Node, right: Node) -> Result<Node, NoMemory>
     ensures left { IfOk result (λ node. (p : AnyProgram) (f : AnyFacts) (answers : Answers) (w : World) → what_is_left f answers (control_in p node) w ≡ what_is_left f answers (control_in p right) (what_is_left f answers (control_in p left) w)) }
 {
     pair(alloc, left, right, Vec::new(alloc))
+}
+
+/// A request that waits at a slot, what becomes of its answer, and what goes on behind it: what `compose` makes of a request
+/// with nothing behind it.
+#[inline(always)]
+pub fn asking(
+    alloc: Global,
+    slot: u8,
+    request: Request,
+    next: Next,
+    cursor: Cursor,
+) -> Result<Node, NoMemory>
+    ensures { IfOk result (λ node. (p : AnyProgram) → control_in p node ≡ WaitsFor slot request (next_in p next) (cursor_in p cursor.items)) }
+{
+    match next {
+        Next::Take { assign } => {
+            let first = Node::Wait {
+                slot,
+                request,
+                next: Next::Take {
+                    assign: Assign::Ignore,
+                },
+                cursor,
+            };
+            let node = then(alloc, first, assign)?;
+            Ok(node)
+        }
+        Next::Begin { turn, body } => Ok(Node::Wait {
+            slot,
+            request,
+            next: Next::Begin { turn, body },
+            cursor,
+        }),
+    }
+}
+
+/// Two arms that wait side by side, and what goes on behind them.
+pub fn arms(alloc: Global, one: Node, two: Node, cursor: Cursor) -> Result<Node, NoMemory>
+    ensures { IfOk result (λ node. (p : AnyProgram) → control_in p node ≡ Arms (control_in p one) (control_in p two) (cursor_in p cursor.items)) }
+{
+    let both = combine(alloc, one, two)?;
+    let node = compose(alloc, both, cursor)?;
+    Ok(node)
 }
 
 fn pair(alloc: Global, one: Node, two: Node, cursor: Cursor) -> Result<Node, NoMemory>
