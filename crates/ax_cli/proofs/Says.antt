@@ -1,11 +1,12 @@
 -- How a run has ended, in words that don't go by its status.
-use Rattle.std.proofs.Common.{◌≡◌, ℕ, ◌⊎◌, inl, inr, ◌<◌, ◌^◌, ◌-◌, List, [], Option, Some, None, refl, sym, subst}
+use Rattle.std.proofs.Common.{◌≡◌, ℕ, ◌⊎◌, inl, inr, ◌<◌, ◌^◌, ◌-◌, List, [], true, Option, Some, None, refl, sym, subst}
 use Rattle.ax_base.specs.Outside.{Told}
 use Rattle.ax_task.specs.Parse.{Parsed, BadProgram, Runs, Stream, Ending, Clean, Fault, parse}
 use Rattle.ax_task.specs.Clause.{Holds}
+use Rattle.ax_task.proofs.Telling.{read_wrote, write_wrote}
 use Rattle.ax_words.specs.declared.options.Options.{Options}
-use Rattle.ax_cli.specs.Status.{StatusOf, IsRefused, IsNamed, status_at, status_named, Streams, Leaves}
-use Rattle.ax_cli.specs.Laws.{WroteLawful, WroteNothing, Says, SaysProgramFault, SaysEvents, SaysInputFault}
+use Rattle.ax_cli.specs.Status.{StatusOf, StatusStops, IsRefused, IsNamed, status_at, status_named, Streams, Leaves}
+use Rattle.ax_cli.specs.Laws.{WroteLawful, WroteNothing, WroteAllThatWasRead, WroteSome, Says, SaysProgramFault, SaysEvents, SaysInputFault}
 use Rattle.ax_cli.specs.declared.status.Status.{Status}
 use Rattle.ax_cli.specs.declared.status.Status.TheVariants as status
 
@@ -55,6 +56,24 @@ pub program_wrote : (asked : Option Options) (s : Streams) (bytes rest : List �
 unfolding IsOfRun
 program_wrote None s bytes rest line kind known behind h = absurd (not_refused (status.Program line kind) tt (h.refused refl))
 program_wrote (Some o) s bytes rest line kind known behind h = program_says o.max_parallelism s.out bytes rest line kind (parse bytes) refl (of_told (λ a b. StatusOf o.max_parallelism s.out (parse a) b (status.Program line kind)) known behind h.told)
+
+pub read_wrote_all : (asked : Option Options) (s : Streams) (bytes rest : List ℕ) → s.left ≡ Some bytes → s.left_behind ≡ Some rest → Leaves asked s status.Read → WroteAllThatWasRead asked s.out bytes rest
+unfolding IsOfRun
+read_wrote_all None s bytes rest known behind h = absurd (not_refused status.Read tt (h.refused refl))
+read_wrote_all (Some o) s bytes rest known behind h = record {
+  options = o;
+  accepted = refl;
+  lines = read_wrote o.max_parallelism true s.out bytes rest (of_told (λ a b. StatusStops o.max_parallelism s.out a b status.Read) known behind h.stopped);
+}
+
+pub write_wrote_some : (asked : Option Options) (s : Streams) (bytes rest : List ℕ) → s.left ≡ Some bytes → s.left_behind ≡ Some rest → Leaves asked s status.Write → WroteSome asked s.out bytes rest
+unfolding IsOfRun
+write_wrote_some None s bytes rest known behind h = absurd (not_refused status.Write tt (h.refused refl))
+write_wrote_some (Some o) s bytes rest known behind h = record {
+  options = o;
+  accepted = refl;
+  lines = write_wrote o.max_parallelism true s.out bytes rest (of_told (λ a b. StatusStops o.max_parallelism s.out a b status.Write) known behind h.stopped);
+}
 
 events_say : (bytes : List ℕ) (p : _) (s : Stream) (e : Ending) → parse bytes ≡ Runs p s → s.ending ≡ e → Says bytes (status_at e)
 events_say bytes p s Clean says ends = SaysEvents p s says ends

@@ -6,6 +6,7 @@ use Rattle.ax_machine.specs.Entries.{Entry, text_of}
 use Rattle.ax_machine.specs.Lawful.{LawfulFor}
 use Rattle.ax_task.specs.Parse.{Stream, Ending, Clean, Fault, BadProgram, Runs, parse}
 use Rattle.ax_task.specs.Clause.{Holds}
+use Rattle.ax_task.specs.Laws.{OfWholeLines, WroteWhatIsRead, WroteAPart}
 use Rattle.ax_words.specs.declared.options.Options.{Options}
 use Rattle.ax_cli.specs.declared.status.Status.{Status}
 use Rattle.ax_cli.specs.declared.status.Status.TheVariants as status
@@ -27,6 +28,18 @@ pub record WroteLawful (asked : Option Options) (out : Holds) (bytes : List ℕ)
 pub record WroteNothing (out : Holds) (bytes : List ℕ) (line kind : ℕ) : Type 0 where
   pub says : parse bytes ≡ BadProgram line kind
   pub same : Appends out.old out.new []
+
+-- the words were accepted; of the bytes some were taken, and for the whole lines among them all was written that they say
+pub record WroteAllThatWasRead (asked : Option Options) (out : Holds) (bytes rest : List ℕ) : Type 0 where
+  pub options : Options
+  pub accepted : asked ≡ Some options
+  pub lines : OfWholeLines bytes rest (WroteWhatIsRead options.max_parallelism true out)
+
+-- the same where a first part was written
+pub record WroteSome (asked : Option Options) (out : Holds) (bytes rest : List ℕ) : Type 0 where
+  pub options : Options
+  pub accepted : asked ≡ Some options
+  pub lines : OfWholeLines bytes rest (WroteAPart options.max_parallelism true out)
 
 -- what the bytes of an input say, as a status
 pub data Says (bytes : List ℕ) : Status → Type 0 where

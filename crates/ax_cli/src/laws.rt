@@ -4,7 +4,7 @@ ghost use Rattle.ax_words.specs.declared.options.Options.{Options as AnyOptions}
 ghost use Rattle.ax_task.specs.Parse.{Clean, Fault};
 ghost use Rattle.ax_cli.specs.declared.status.Status.{Status as AnyStatus};
 ghost use Rattle.ax_cli.specs.Status.{Streams, Leaves};
-ghost use Rattle.ax_cli.specs.Laws.{WroteLawful, WroteNothing, Says};
+ghost use Rattle.ax_cli.specs.Laws.{WroteLawful, WroteNothing, WroteAllThatWasRead, WroteSome, Says};
 
 use crate::status::Status;
 
@@ -22,6 +22,18 @@ pub fn input_faults_end_the_events()
 /// A run that ended with Program names the fault for which the bytes say no program, and wrote nothing.
 pub fn program_faults_wrote_nothing()
     ensures { (asked : Option AnyOptions) (s : Streams) (bytes rest : List ℕ) (line kind : ℕ) → s.left ≡ Some bytes → s.left_behind ≡ Some rest → Leaves asked s (Status.Program line kind) → WroteNothing s.out bytes line kind }
+{}
+
+/// A run that ended with Read had accepted words, and took some of the bytes. The whole lines among them end before the program section
+/// does, and nothing was written; or they say a program and events without a fault, and a lawful list was written for all of these.
+pub fn read_faults_wrote_a_lawful_list()
+    ensures { (asked : Option AnyOptions) (s : Streams) (bytes rest : List ℕ) → s.left ≡ Some bytes → s.left_behind ≡ Some rest → Leaves asked s Status.Read → WroteAllThatWasRead asked s.out bytes rest }
+{}
+
+/// A run that ended with Write had accepted words, and took some of the bytes. The whole lines among them say a program, and some first
+/// part was written of a list that is lawful so far for their events.
+pub fn write_faults_wrote_a_part()
+    ensures { (asked : Option AnyOptions) (s : Streams) (bytes rest : List ℕ) → s.left ≡ Some bytes → s.left_behind ≡ Some rest → Leaves asked s Status.Write → WroteSome asked s.out bytes rest }
 {}
 
 /// Where the words are accepted and no fault was counted, a run has ended as the bytes say, or memory was short.

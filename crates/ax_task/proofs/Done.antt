@@ -1,6 +1,7 @@
 -- What the controller's own calls leave, as things that a step does.
-use Rattle.std.proofs.Common.{◌≡◌, true, false, List, ℕ, [], Bool, Result, Ok, Err, IfOk, OnOk, refl, sym, ap, ◌∙◌, subst}
+use Rattle.std.proofs.Common.{◌≡◌, ◌⊎◌, inl, inr, true, false, List, ℕ, [], Bool, Result, Ok, Err, IfOk, OnOk, refl, sym, ap, ◌∙◌, subst}
 use Rattle.std.specs.Io.KnownBytes.{Appends}
+use Rattle.ax_base.specs.Outside.{AppendsSome}
 use Rattle.ax_machine.specs.Entries.{says, text_of}
 use Rattle.ax_time.specs.declared.epoch.Marker.{Marker}
 use Rattle.ax_time.specs.declared.epoch.Marker.TheVariants as marker
@@ -17,10 +18,11 @@ use Rattle.ax_core.specs.Sound.{StandsFor}
 use Rattle.ax_core.specs.Events.{Makes, Sends}
 use Rattle.ax_core.specs.Order.{Posts, IdleBehind, idle_in}
 use Rattle.ax_task.specs.Shards.{Serving}
-use Rattle.ax_task.specs.Engines.{ShardsStay, IsBlockOf, IsMarkerText, WroteMarker}
+use Rattle.ax_task.specs.Engines.{ShardsStay, IsBlockOf, IsMarkerText, WroteMarker, WritesPart}
 use Rattle.ax_task.specs.Calls.{HasFired, HasRun, HasClosed}
-use Rattle.ax_task.specs.Things.{Output, text_in, Fires, RunsMail, SendsMarker, DoesWork, SendsThrough, NoWork}
+use Rattle.ax_task.specs.Things.{Output, text_in, Fires, RunsMail, SendsMarker, DoesWork, SendsThrough, CutsThrough, WorkBreaks, Short, Cut, NoWork}
 use Rattle.ax_task.specs.declared.engine.Engine.{Engine}
+use Rattle.ax_task.proofs.EngineLemmas.{true_false}
 
 -- an epoch was closed
 pub close_has : {E : Type 0} (e e' : Engine) → ShardsStay e e' → (k : Marker) (r : Result (Unit {0}) E) → OnOk r (Posts e.core e'.core []) → OnOk r ((m : MachineControl) → StandsFor e.core m → IdleBehind e.core e'.core k m)
@@ -55,6 +57,38 @@ sends_through e e' a d core k event order idle o o' w flushed = record {
   };
   writes = (record { text = w.text; is = text_as (record e { core = a }) e' (record { settings = d.settings; batch = d.batch; shards = d.shards }) core k w.text w.is; grown = w.grown }, flushed);
 }
+
+-- a part of a marker was written
+pub cuts_through : (e e' : Engine) (a : Controller) → ShardsStay e e' → e'.core ≡ a → (k : Marker) → ((m : MachineControl) → StandsFor e.core m → Sends e.core a k m) → Posts e.core a [] → idle_in a ≡ idle_in e.core
+    → (o o' : Output) → WritesPart (record e { core = a }) k (text_in o) (text_in o') → CutsThrough e e' o o'
+cuts_through e e' a d core k event order idle o o' w = record {
+  marker = k;
+  finished = λ m h. (event m h).made.allowed.1;
+  sent = record {
+    event = λ m h. subst (λ (b : Controller). Sends e.core b k m) (sym core) (event m h);
+    order = subst (λ (b : Controller). Posts e.core b []) (sym core) order;
+    idle = ap idle_in core ∙ idle;
+    shards = d;
+  };
+  writes = of w;
+}
+  where
+    of : WritesPart (record e { core = a }) k (text_in o) (text_in o') → WritesPart e' k (text_in o) (text_in o')
+    of (inl same) = inl same
+    of (inr p) = inr (record { text = p.text; is = text_as (record e { core = a }) e' (record { settings = d.settings; batch = d.batch; shards = d.shards }) core k p.text p.is; part = p.part })
+
+-- work broke off
+
+pub fire_breaks : (e e' : Engine) (o : Output) → may_fire e.core ≡ true → WorkBreaks e e' o o
+fire_breaks e e' o may = Short (λ none. true_false (sym may ∙ none.fires)) refl
+
+pub mail_breaks : {G : Type 0} (a b : G) (at : G → Output) (e e' : Engine) → may_fire e.core ≡ false → has_mail e.core ≡ true → (b ≡ a) ⊎ ((f : Effects) × HasRun e e' f × AppendsSome (text_in (at a)) (text_in (at b)) (text_of (says f.key f.outs)))
+    → WorkBreaks e e' (at a) (at b)
+mail_breaks a b at e e' fires mails (inl same) = Short (λ none. true_false (sym mails ∙ none.mails)) (ap at same)
+mail_breaks a b at e e' fires mails (inr x) = Cut (RunsMail x.0) (fires, mails) x.1 x.2
+
+pub marker_breaks : (e e' : Engine) (o o' : Output) → may_fire e.core ≡ false → has_mail e.core ≡ false → CutsThrough e e' o o' → WorkBreaks e e' o o'
+marker_breaks e e' o o' fires mails x = Cut (SendsMarker x.marker) (fires, mails, x.finished) x.sent x.writes
 
 -- a key fired, or a callback ran
 pub works_fire : (e e' : Engine) (o : Output) → may_fire e.core ≡ true → (f : Fired) × HasFired e e' f → DoesWork e e' o o

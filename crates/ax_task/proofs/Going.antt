@@ -43,9 +43,9 @@ goes_behind e e' r q r' lines lines' did.Went l h = (h.0, omega (arith, l, h.1))
 goes_behind e e' r q r' lines lines' did.Took l h = omega (arith, l, h)
 goes_behind e e' r q r' lines lines' (did.End end) l h = tt
 
--- where nothing can be done
-module _ (e : Engine) (r : Reading) (ready : IsReady e) (quiet : IsQuiet e.core) (mails : has_mail e.core ≡ false) (waits : NothingWaits e) (blocked : IfSome r.next (λ (x : CodeEvent). IsFree e.core → ⊥)) where
-  is_free : IsFree e.core
+-- where there is no work and no request
+module _ (e : Engine) (ready : IsReady e) (quiet : IsQuiet e.core) (mails : has_mail e.core ≡ false) (waits : NothingWaits e) where
+  pub is_free : IsFree e.core
   is_free = record {
     control = control_of_machine ready.stands.refines.machine;
     sound = ready.stands.sound;
@@ -56,12 +56,17 @@ module _ (e : Engine) (r : Reading) (ready : IsReady e) (quiet : IsQuiet e.core)
     some = subst (λ (s : Settings). 0 < s.in_flight) (sym ready.stands.refines.settings) ready.stands.some;
   }
 
+-- where nothing can be done
+module _ (e : Engine) (r : Reading) (ready : IsReady e) (quiet : IsQuiet e.core) (mails : has_mail e.core ≡ false) (waits : NothingWaits e) (blocked : IfSome r.next (λ (x : CodeEvent). IsFree e.core → ⊥)) where
+  free : IsFree e.core
+  free = is_free e ready quiet mails waits
+
   pub none_held : r.next ≡ None
   none_held = of r.next blocked
     where
       of : (o : Option CodeEvent) → IfSome o (λ (x : CodeEvent). IsFree e.core → ⊥) → o ≡ None
       of None h = refl
-      of (Some x) h = absurd (h is_free)
+      of (Some x) h = absurd (h free)
 
   none_left : (m : MachineControl) → StandsFor e.core m → in_flight_on m ≡ 0
   none_left m stands = sym stands.stands.flight ∙ (ready.stands.refines.stands.stands.flight ∙ none_in_flight e ready waits quiet mails)
@@ -70,9 +75,9 @@ module _ (e : Engine) (r : Reading) (ready : IsReady e) (quiet : IsQuiet e.core)
   ends_well end found s p from lines now x = ended_well s p from e r lines now x end found none_held quiet none_left
 
   pub at_rest : (end : End) → r.found ≡ Some end → IsFound r.found → IsAtRest e.core r.found end
-  at_rest end.Ok found is = (found, is_free)
-  at_rest (end.Input line kind) found is = (found, is_free)
-  at_rest end.Read found is = (found, is_free)
+  at_rest end.Ok found is = (found, free)
+  at_rest (end.Input line kind) found is = (found, free)
+  at_rest end.Read found is = (found, free)
   at_rest end.Write found is = tt
   at_rest end.NoMemory found is = tt
   at_rest (end.Program line kind) found is = subst IsFound found is

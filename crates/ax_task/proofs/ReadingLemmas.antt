@@ -1,5 +1,6 @@
 -- The next event is looked for.
-use Rattle.std.proofs.Common.{◌≡◌, ℕ, List, [], ◌∷◌, ◌++◌, false, Option, Some, None, Ok, Err, refl, sym, ap, ◌∙◌, subst, append-nil}
+use Rattle.std.proofs.Common.{◌≡◌, ℕ, List, [], ◌∷◌, ◌++◌, false, Option, Some, None, IsSome, Ok, Err, refl, sym, ap, ◌∙◌, subst, append-nil}
+use Rattle.std.proofs.lemmas.Option.{none-some}
 use Rattle.ax_base.specs.Outside.{RoseByOne, Told}
 use Rattle.ax_base.specs.Reader.{Reader}
 use Rattle.ax_machine.specs.Events.{Event}
@@ -9,6 +10,7 @@ use Rattle.ax_task.specs.Parse.{Stream, Clean, ends}
 use Rattle.ax_task.specs.Reads.{NextOf}
 use Rattle.ax_task.specs.Passes.{events_at, SomePassed, NextPasses}
 use Rattle.ax_task.specs.Known.{Knows, IsInputEnd}
+use Rattle.ax_task.specs.Due.{HeldBeforeEnd}
 use Rattle.ax_task.specs.Tasks.{held_events, From, FoundCounts, IsFound, Finds, MayRead, HasRead, ReadsOn, ReadsShort}
 use Rattle.ax_task.specs.declared.end.End.{End}
 use Rattle.ax_task.specs.declared.end.End.TheVariants as end
@@ -80,6 +82,28 @@ module _ (r r' : Reading) (lines lines' : Reader) (l l' : Option (List ℕ)) (re
   -- memory was short
   pub reads_short : Told l l' (λ a b. SomePassed (means r lines) (feed lines.held a) b) → ReadsShort r lines l l' reads
   reads_short m from taken h = taken_short from.means (means r lines) (means r lines) from.held lines.held lines.held from.outer.left l l' (taken ++ held_events r.next) (known from taken h) m
+
+-- an event is held only where no end was found
+
+none_found : (o : Option End) → o ≡ None → IsSome o → ⊥
+none_found None e h = cc h
+none_found (Some x) e h = cc e
+
+pub held_unfound : (r : Reading) → r.found ≡ None → HeldBeforeEnd r
+held_unfound r unfound some = absurd (none_found r.found unfound some)
+
+pub none_held : (r : Reading) → r.next ≡ None → HeldBeforeEnd r
+none_held r none some = none
+
+pub held_as : (r r' : Reading) → r' ≡ r → HeldBeforeEnd r → HeldBeforeEnd r'
+held_as r r' same h = subst HeldBeforeEnd (sym same) h
+
+pub unfound_held : (r : Reading) (e : CodeEvent) → HeldBeforeEnd r → r.next ≡ Some e → r.found ≡ None
+unfound_held r e h next = of r.found (λ some. sym (h some) ∙ next)
+  where
+    of : (o : Option End) → (IsSome o → None ≡ Some e) → o ≡ None
+    of None k = refl
+    of (Some x) k = absurd (none-some e (k refl))
 
 -- nothing is looked for
 pub reads_none : (r : Reading) (lines : Reader) (l : Option (List ℕ)) (reads : ℕ) → ReadsOn r r lines lines l l reads reads

@@ -140,8 +140,11 @@ nothing e home none = record {
 pub sent_first : (e e' : Engine) (shard : ℕ) (batch : List Item) → batch ≡ take (batch_of e) (queue_of e.core.buffer shard)
     → SendsFirst e.core e'.core shard (batch_of e) batch → ((t : ℕ) → out e'.shards t ≡ upd (out e.shards) shard batch t) → ((t : ℕ) → held e'.shards t ≡ held e.shards t)
     → e'.shards.sent ≡ e.shards.sent ++ shard ∷ [] → e'.shards.order ≡ e.shards.order
-    → idle_in e'.core ≡ idle_in e.core → e'.settings ≡ e.settings → batch_of e' ≡ batch_of e → IsSent e e' shard
-sent_first e e' shard batch is queue now kept sent order idle settings size = record {
+    → idle_in e'.core ≡ idle_in e.core → e'.settings ≡ e.settings → batch_of e' ≡ batch_of e
+    → ((m : MachineControl) → StandsFor e.core m → StandsFor e'.core m) → ((m : MachineControl) → StandsFor e.core m → AsksAll e.core shard m batch) → IsSent e e' shard
+sent_first e e' shard batch is queue now kept sent order idle settings size stands asks = record {
+  event = stands;
+  asks = subst (λ (b : List Item). (m : MachineControl) → StandsFor e.core m → AsksAll e.core shard m b) is asks;
   queue = subst (λ (b : List Item). SendsFirst e.core e'.core shard (batch_of e) b) is queue;
   batches = subst (λ (b : List Item). (t : ℕ) → out e'.shards t ≡ upd (out e.shards) shard b t) is now;
   kept = kept;
@@ -155,8 +158,9 @@ sent_first e e' shard batch is queue now kept sent order idle settings size = re
 -- what came back is the batch that was next
 pub back_next : (e e' : Engine) (n shard : ℕ) (rs : List Reply) → Came n (out e.shards) (out e'.shards) (held e.shards) (held e'.shards) shard (Ok rs)
     → IsNext e.shards e'.shards shard → Posts e.core e'.core (replies_in e.core rs) → idle_in e'.core ≡ idle_in e.core → e'.settings ≡ e.settings → batch_of e' ≡ batch_of e
-    → IsBack e e' (next_out e.shards)
-back_next e e' n shard rs came next posts idle settings size = subst (IsBack e e') next.shard (record {
+    → ((m : MachineControl) → StandsFor e.core m → ServesAll e.core e'.core rs m) → IsBack e e' (next_out e.shards)
+back_next e e' n shard rs came next posts idle settings size served = subst (IsBack e e') next.shard (record {
+  event = subst (λ (ys : List Reply). (m : MachineControl) → StandsFor e.core m → ServesAll e.core e'.core ys m) came.served.replies served;
   next = next;
   was_out = came.was_out;
   home = came.home;

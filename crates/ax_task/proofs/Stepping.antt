@@ -1,18 +1,20 @@
 -- What a step does, put together of what its parts do.
-use Rattle.std.proofs.Common.{◌≡◌, inl, true, Bool, ℕ, List, Option, Some, None, Err, refl, sym, ◌∙◌, subst}
+use Rattle.std.proofs.Common.{◌≡◌, inl, true, false, Bool, ℕ, List, Option, Some, None, Err, refl, sym, ap, ◌∙◌, subst}
+use Rattle.std.specs.Io.KnownBytes.{Keeps}
 use Rattle.ax_base.specs.Outside.{Counts, OwnCounts}
 use Rattle.ax_base.specs.Reader.{Reader}
 use Rattle.ax_base.specs.declared.outside.SinkFault.{SinkFault}
 use Rattle.ax_base.specs.declared.outside.SinkFault.TheVariants as sink
-use Rattle.ax_task.specs.Reads.{sink_end}
+use Rattle.ax_task.specs.Reads.{sink_end, is_stopped}
 use Rattle.ax_task.specs.Known.{IsInputEnd}
 use Rattle.ax_task.specs.Engines.{IsReady}
 use Rattle.ax_task.specs.Exchanged.{Exchanges}
+use Rattle.ax_task.specs.Due.{HeldBeforeEnd}
 use Rattle.ax_task.specs.Tasks.{Outer, MayRead, IsFound, Finds}
 use Rattle.ax_task.specs.Causes.{EndWrites, DidCounts}
 use Rattle.ax_task.specs.Steady.{CanGoOn, Where}
 use Rattle.ax_task.specs.Running.{State}
-use Rattle.ax_task.specs.Things.{OutputStays, Input, NoWork, Looks, CantTake, Moves, DoesNext, StaysDone, input_of, output_of, LooksAndDoes, LooksAndRests, Does, Goes, Rests, ByEnd, ByDid}
+use Rattle.ax_task.specs.Things.{Output, text_in, OutputStays, Input, NoWork, Looks, CantTake, Moves, DoesNext, NothingLeft, StaysDone, input_of, output_of, LooksAndDoes, LooksAndRests, Does, Goes, Rests, Ends, EndsUnwritten, Breaks, ByEnd, ByStop, ByDid, DidStop, EndDoes}
 use Rattle.ax_task.specs.declared.end.End.{End}
 use Rattle.ax_task.specs.declared.end.End.TheVariants as end
 use Rattle.ax_task.specs.declared.driver.Did.{Did}
@@ -100,8 +102,8 @@ reads_next t t' old now d s none same out h = did_map (λ x. Goes none x out) (�
     (subst (λ (f : Engine). ByDid (LooksAndDoes f t'.engine (input_of t old) (input_of t' now)) (LooksAndRests f t'.engine (input_of t old) (input_of t' now)) s) same h)
 
 -- the task can go on
-pub steady_behind : (e' : Engine) (q r' : Reading) (lines : Reader) (s : Did) → r'.found ≡ q.found → MayRead lines q.found → IsFound q.found → Where s (IsReady e') → Where s (CanGoOn e' r' lines)
-steady_behind e' q r' lines s same may found = where_map (λ x. record { ready = x; may = subst (MayRead lines) (sym same) may; found = subst IsFound (sym same) found }) s
+pub steady_behind : (e' : Engine) (q r' : Reading) (lines : Reader) (s : Did) → r'.found ≡ q.found → MayRead lines q.found → IsFound q.found → HeldBeforeEnd r' → Where s (IsReady e') → Where s (CanGoOn e' r' lines)
+steady_behind e' q r' lines s same may found none = where_map (λ x. record { ready = x; may = subst (MayRead lines) (sym same) may; found = subst IsFound (sym same) found; none = none }) s
 
 -- the counts of the sink stayed
 pub counts_still : (a b : Counts) (s : Did) → b ≡ a → DidCounts a a s → DidCounts a b s
@@ -116,3 +118,69 @@ does_from t t' old now holds writes room s h w r x =
     subst (λ (b : List ℕ). ByDid (Does (record t { gathered = b }) t' old now) (Rests (record t { gathered = b }) t' old now) s) r
     (subst (λ (v : Counts). ByDid (Does (record t { gathered = room }) t' (from old.holds v) now) (Rests (record t { gathered = room }) t' (from old.holds v) now) s) w
     (subst (λ (k : Option (List ℕ)). ByDid (Does (record t { gathered = room }) t' (from k writes) now) (Rests (record t { gathered = room }) t' (from k writes) now) s) h x))
+
+-- where a run stops for a fault of the sink or for want of memory
+
+pub stop_sink : {P : Type 0} (f : SinkFault) (e : End) → e ≡ sink_end f → P → ByStop P e
+stop_sink {P} f e is x = subst (ByStop P) (sym is) (of f)
+  where
+    of : (f : SinkFault) → ByStop P (sink_end f)
+    of sink.Failed = x
+    of sink.NoMemory = x
+
+pub stop_any : {P : Type 0} (d : Did) → P → DidStop P d
+stop_any did.Went x = tt
+stop_any did.Took x = tt
+stop_any (did.End end.Ok) x = tt
+stop_any (did.End (end.Input line kind)) x = tt
+stop_any (did.End (end.Program line kind)) x = tt
+stop_any (did.End end.Read) x = tt
+stop_any (did.End end.Write) x = x
+stop_any (did.End end.NoMemory) x = x
+
+pub stop_none : {P : Type 0} (e : End) → is_stopped e ≡ false → ByStop P e
+stop_none end.Ok h = tt
+stop_none (end.Input line kind) h = tt
+stop_none (end.Program line kind) h = tt
+stop_none end.Read h = tt
+stop_none end.Write h = absurd (cc h)
+stop_none end.NoMemory h = absurd (cc h)
+
+pub end_was : {P : Type 0} (e : End) → is_stopped e ≡ false → ByEnd P e → P
+end_was end.Ok h x = x
+end_was (end.Input line kind) h x = x
+end_was (end.Program line kind) h x = absurd x
+end_was end.Read h x = x
+end_was end.Write h x = absurd (cc h)
+end_was end.NoMemory h x = absurd (cc h)
+
+-- the sink stayed
+pub stop_still : {G : Type 0} (P : G → Type 0) (a b : G) (e : End) → b ≡ a → ByStop (P a) e → ByStop (P b) e
+stop_still P a b e same h = subst (λ k. ByStop (P k) e) (sym same) h
+
+-- what was gathered could not all be written
+pub rests_unwritten : (t t' t2 : State) (old now now2 : Outer) → t2.engine ≡ t'.engine → input_of t2 now2 ≡ input_of t' now → Keeps (text_in (output_of t' now)) (text_in (output_of t2 now2)) → Rests t t' old now → EndsUnwritten t t2 old now2
+rests_unwritten t t' t2 old now now2 engine input keeps x = record {
+  looks = subst (Looks (input_of t old)) (sym input) x.looks;
+  engine = engine ∙ x.engine;
+  left = subst (λ (e : Engine). NothingLeft e t2.reading) (sym engine) (subst (λ (r : Reading). NothingLeft t'.engine r) (sym (ap (λ (i : Input). i.reading) input)) x.left);
+  kept = subst (λ (o : Output). Keeps (text_in o) (text_in (output_of t2 now2))) x.output keeps;
+}
+
+-- at each end
+pub end_does : (t t' : State) (old now : Outer) (e : End) → ByEnd (Ends t t' old now) e → ByStop (Breaks t t' old now) e → EndDoes t t' old now e
+end_does t t' old now end.Ok x y = x
+end_does t t' old now (end.Input line kind) x y = x
+end_does t t' old now (end.Program line kind) x y = x
+end_does t t' old now end.Read x y = x
+end_does t t' old now end.Write x y = y
+end_does t t' old now end.NoMemory x y = y
+
+-- round a sink that gathers, from what the room and the sink were
+pub breaks_from : (t t' : State) (old now : Outer) (holds : Option (List ℕ)) (writes : Counts) (room : List ℕ) (s : Did) → holds ≡ old.holds → writes ≡ old.writes → room ≡ t.gathered
+    → DidStop (Breaks (record t { gathered = room }) t' (record old { holds = holds; writes = writes }) now) s → DidStop (Breaks t t' old now) s
+breaks_from t t' old now holds writes room s h w r x =
+    let from : Option (List ℕ) → Counts → Outer = λ k v. record old { holds = k; writes = v } in
+    subst (λ (b : List ℕ). DidStop (Breaks (record t { gathered = b }) t' old now) s) r
+    (subst (λ (v : Counts). DidStop (Breaks (record t { gathered = room }) t' (from old.holds v) now) s) w
+    (subst (λ (k : Option (List ℕ)). DidStop (Breaks (record t { gathered = room }) t' (from k writes) now) s) h x))

@@ -35,6 +35,10 @@ unread (Some e) limit = 0
 abbrev pub due : Reading → Reader → ℕ
 due r lines = one_held r.next + unread r.found lines.limit
 
+-- an event is held only where no end was found
+abbrev pub HeldBeforeEnd : Reading → Type 0
+HeldBeforeEnd r = IsSome r.found → r.next ≡ None
+
 -- an event is held, or an end was found
 abbrev pub IsLooked : Reading → Type 0
 IsLooked r = r.next ≡ None → IsSome r.found

@@ -3,6 +3,9 @@ use Rattle.std.specs.Prelude.{◌≡◌, ◌≢◌, ◌≤◌, ◌<◌, ℕ, Boo
 use Rattle.ax_text.specs.Functions.{upd}
 use Rattle.ax_buffer.specs.declared.items.Item.{Item}
 use Rattle.ax_buffer.specs.Buffer.{queue_of}
+use Rattle.ax_execution.specs.MachineControls.{MachineControl}
+use Rattle.ax_core.specs.Sound.{StandsFor}
+use Rattle.ax_core.specs.Events.{AsksAll, ServesAll}
 use Rattle.ax_core.specs.Order.{SendsFirst, Posts, replies_in, idle_in}
 use Rattle.ax_task.specs.Serving.{replies_to, content_after}
 use Rattle.ax_task.specs.Shards.{held, out, next_out, IsNext}
@@ -42,8 +45,11 @@ pub record IsFirstHomeWith (e : Engine) (least shard : ℕ) : Type 0 where
 abbrev pub next_batch : Engine → ℕ → List Item
 next_batch e shard = take (batch_of e) (queue_of e.core.buffer shard)
 
--- they were sent to the shard, which is out with them
+-- they were sent to the shard, which is out with them. That is no event of the machine: the controller still stands for the same control, in
+-- which each of them waits at its key, unserved
 pub record IsSent (old new : Engine) (shard : ℕ) : Type 0 where
+  pub event : (m : MachineControl) → StandsFor old.core m → StandsFor new.core m
+  pub asks : (m : MachineControl) → StandsFor old.core m → AsksAll old.core shard m (next_batch old shard)
   pub queue : SendsFirst old.core new.core shard (batch_of old) (next_batch old shard)
   pub batches : (s : ℕ) → out new.shards s ≡ upd (out old.shards) shard (next_batch old shard) s
   pub kept : (s : ℕ) → held new.shards s ≡ held old.shards s
@@ -53,8 +59,10 @@ pub record IsSent (old new : Engine) (shard : ℕ) : Type 0 where
   pub settings : new.settings ≡ old.settings
   pub batch : batch_of new ≡ batch_of old
 
--- the batch of a shard, the next by the list of numbers, was served and its replies were delivered; the shard is home
+-- the batch of a shard, the next by the list of numbers, was served and its replies were delivered; the shard is home. By that the machine has
+-- served each request of the batch, one after the other
 pub record IsBack (old new : Engine) (shard : ℕ) : Type 0 where
+  pub event : (m : MachineControl) → StandsFor old.core m → ServesAll old.core new.core (replies_to (out old.shards shard) (held old.shards shard)) m
   pub next : IsNext old.shards new.shards shard
   pub was_out : out old.shards shard ≢ []
   pub home : (s : ℕ) → out new.shards s ≡ upd (out old.shards) shard [] s

@@ -8,9 +8,14 @@ use Rattle.ax_machine.specs.Events.{Event}
 use Rattle.ax_machine.specs.Lawful.{LawfulFor, LawfulSoFarFor}
 use Rattle.ax_input.specs.PlainEntries.{IsShort}
 use Rattle.ax_execution.specs.MachineControls.{MachineControl, in_flight_on}
+use Rattle.ax_execution.specs.ControlsAllowed.{NoneIsIdleOn}
+use Rattle.ax_core.specs.declared.controller.Controller.{Controller}
 use Rattle.ax_core.specs.Sound.{StandsFor}
-use Rattle.ax_task.specs.Parse.{Parsed, BadProgram, Runs, Stream, Ending, parse}
+use Rattle.ax_task.specs.Sections.{IsUnfinished}
+use Rattle.ax_task.specs.Parse.{Parsed, BadProgram, Runs, Stream, Ending, Clean, section_in, parse}
 use Rattle.ax_task.specs.Clause.{Holds, AreWholeLines}
+use Rattle.ax_task.specs.Due.{IsFree}
+use Rattle.ax_task.specs.Things.{NothingLeft}
 use Rattle.ax_task.specs.Running.{State}
 use Rattle.ax_task.specs.declared.end.End.{End}
 use Rattle.ax_task.specs.declared.end.End.TheVariants as end
@@ -30,15 +35,6 @@ abbrev pub TextsTell : (ℕ → Bool → Parsed → List Entry → Type 0) → L
 TextsTell Writes input other =
     (m n : ℕ) (serial mode : Bool) (one two : List Entry) → Writes m serial (parse input) one → Writes n mode (parse other) two → IsShort one → text_of one ≡ text_of two → one ≡ two
 
--- the ends at which a run stops before it has written all
-abbrev pub IsStop : End → Type 0
-IsStop end.Ok = ⊥
-IsStop (end.Input line kind) = ⊥
-IsStop (end.Program line kind) = ⊥
-IsStop end.Read = Unit {0}
-IsStop end.Write = Unit {0}
-IsStop end.NoMemory = Unit {0}
-
 -- a first part of the text of a list was written, which may be written so far for these events
 pub record PartIsWritten (m : ℕ) (serial : Bool) (p : Program) (events : List Event) (out : Holds) : Type 0 where
   pub list : List Entry
@@ -50,13 +46,13 @@ abbrev pub PartOf : ℕ → Bool → Holds → Parsed → Type 0
 PartOf m serial out (BadProgram line kind) = Appends out.old out.new []
 PartOf m serial out (Runs p s) = PartIsWritten m serial p s.events out
 
--- of the bytes of an input some were taken, and of what the whole lines among them say a part was written
-pub record WroteAPart (m : ℕ) (serial : Bool) (out : Holds) (bytes left : List ℕ) : Type 0 where
+-- of the bytes of an input some were taken, and this is so of the whole lines among them
+pub record OfWholeLines (bytes left : List ℕ) (P : List ℕ → Type 0) : Type 0 where
   pub taken : List ℕ
   pub lines : List ℕ
   pub all : bytes ≡ taken ++ left
   pub whole : AreWholeLines taken left lines
-  pub part : PartOf m serial out (parse lines)
+  pub wrote : P lines
 
 -- the input says a program and events that end so, and the sink grew by the text of a list that is lawful for all of them
 pub record WroteAll (m : ℕ) (serial : Bool) (out : Holds) (input : Parsed) (ending : Ending) : Type 0 where
@@ -68,6 +64,19 @@ pub record WroteAll (m : ℕ) (serial : Bool) (out : Holds) (input : Parsed) (en
   pub lawful : LawfulFor m serial program stream.events list
   pub text : Appends out.old out.new (text_of list)
 
+-- these lines say a program, and for their events a part was written
+pub record WroteAPart (m : ℕ) (serial : Bool) (out : Holds) (lines : List ℕ) : Type 0 where
+  pub program : Program
+  pub stream : Stream
+  pub says : parse lines ≡ Runs program stream
+  pub part : PartIsWritten m serial program stream.events out
+
+-- these lines end before the program section does, and nothing was written; or they say a program and events without a fault, and all was
+-- written for them
+pub data WroteWhatIsRead (m : ℕ) (serial : Bool) (out : Holds) (lines : List ℕ) : Type 0 where
+  InSection : IsUnfinished (section_in lines) → Appends out.old out.new [] → WroteWhatIsRead m serial out lines
+  InEvents : WroteAll m serial out (parse lines) Clean → WroteWhatIsRead m serial out lines
+
 -- the ends by what was found at the input
 abbrev pub IsFoundEnd : End → Type 0
 IsFoundEnd end.Ok = Unit {0}
@@ -77,9 +86,17 @@ IsFoundEnd end.Read = Unit {0}
 IsFoundEnd end.Write = ⊥
 IsFoundEnd end.NoMemory = ⊥
 
--- it was found, nothing is in flight, no marker is to be sent, and nothing is gathered
+-- in each control for which a controller stands nothing is in flight, no marker is to be sent, and no key is idle
+pub record NothingGoesOn (a : Controller) : Type 0 where
+  pub flight : (m : MachineControl) → StandsFor a m → in_flight_on m ≡ 0
+  pub unsent : (m : MachineControl) → StandsFor a m → m.unsent ≡ []
+  pub idle : (m : MachineControl) → StandsFor a m → NoneIsIdleOn m
+
+-- it was found; none of the things can be done that a step does: no key may fire, no mail waits, no marker is to be sent, no event is held, no
+-- request waits and no batch is out; nothing is in flight; and nothing is gathered that isn't written
 pub record LeftNothing (t : State) (e : End) : Type 0 where
   pub found : t.reading.found ≡ Some e
-  pub none : (m : MachineControl) → StandsFor t.engine.core m → in_flight_on m ≡ 0
-  pub unsent : (m : MachineControl) → StandsFor t.engine.core m → m.unsent ≡ []
+  pub left : NothingLeft t.engine t.reading
+  pub free : IsFree t.engine.core
+  pub none : NothingGoesOn t.engine.core
   pub gathered : t.gathered ≡ []

@@ -1,5 +1,5 @@
 -- A task between its steps: what it has come to, and what a step makes of that.
-use Rattle.std.specs.Prelude.{◌<◌, ◌≤◌, ℕ, ℤ, List, Bool, true, false, Option, Some, None}
+use Rattle.std.specs.Prelude.{◌≡◌, ◌<◌, ◌≤◌, ℕ, ℤ, List, [], Bool, true, false, Option, Some, None}
 use Rattle.std.specs.Io.KnownBytes.{append_known}
 use Rattle.ax_base.specs.Gathered.{Begins}
 use Rattle.ax_base.specs.Reader.{Reader}
@@ -43,6 +43,12 @@ controller_of t = t.driver.engine.core
 
 abbrev pub took_event : Task → Bool
 took_event t = t.took
+
+-- nothing was read of the events, and nothing is gathered
+pub record IsFresh (t : State) : Type 0 where
+  pub next : t.reading.next ≡ None
+  pub found : t.reading.found ≡ None
+  pub gathered : t.gathered ≡ []
 
 -- where a run begins whose events are read by these lines, behind a barrier of this ID
 abbrev pub start : Program → ℤ → Reader → Outer → From

@@ -1,7 +1,7 @@
 -- What a step does: one thing, the first that can be done.
 use Rattle.std.specs.Prelude.{◌≡◌, ℕ, List, [], true, false, Option, Some, None, IsSome, IfSome, Ok}
 use Rattle.std.specs.Io.KnownBytes.{Appends, Keeps, append_known}
-use Rattle.ax_base.specs.Outside.{Told}
+use Rattle.ax_base.specs.Outside.{Told, AppendsSome}
 use Rattle.ax_base.specs.Reader.{Reader}
 use Rattle.ax_machine.specs.Entries.{says, text_of}
 use Rattle.ax_input.specs.Shown.{shown_event}
@@ -14,7 +14,7 @@ use Rattle.ax_core.specs.declared.effects.Effects.{Effects}
 use Rattle.ax_core.specs.May.{may_fire, has_mail}
 use Rattle.ax_core.specs.Sound.{StandsFor}
 use Rattle.ax_task.specs.Passes.{events_at, feed_of, NextPasses}
-use Rattle.ax_task.specs.Engines.{WroteMarker, may_take}
+use Rattle.ax_task.specs.Engines.{WroteMarker, WritesPart, may_take}
 use Rattle.ax_task.specs.Calls.{HasFired, HasRun, HasSent, HasTaken}
 use Rattle.ax_task.specs.Exchanged.{NothingWaits, is_something}
 use Rattle.ax_task.specs.Exchanged as exchanged
@@ -91,11 +91,29 @@ pub record DoesWork (old new : Engine) (o o' : Output) : Type 0 where
   pub leads : WorkLeads old new work
   pub writes : WorkWrites new work o o'
 
+-- how much of its text is written where it breaks off: some first part. A key that fires has none
+abbrev pub WorkCuts : Engine → Work → Output → Output → Type 0
+WorkCuts new (Fires f) o o' = ⊥
+WorkCuts new (RunsMail f) o o' = AppendsSome (text_in o) (text_in o') (text_of (says f.key f.outs))
+WorkCuts new (SendsMarker k) o o' = WritesPart new k (text_in o) (text_in o')
+
+-- the marker of the oldest closed epoch, which is finished, was taken, and some first part of it was written
+pub record CutsThrough (old new : Engine) (o o' : Output) : Type 0 where
+  pub marker : Marker
+  pub finished : IsFinished old
+  pub sent : HasSent old new marker
+  pub writes : WorkCuts new (SendsMarker marker) o o'
+
 -- no key may fire, no mail waits, and the oldest closed epoch, if any, isn't finished
 pub record NoWork (e : Engine) : Type 0 where
   pub fires : may_fire e.core ≡ false
   pub mails : has_mail e.core ≡ false
   pub sends : (m : MachineControl) → StandsFor e.core m → FirstIsFinishedOn m.unsent m → ⊥
+
+-- work broke off: memory was short before anything was written for it, or some first part of its text was written
+pub data WorkBreaks (old new : Engine) (o o' : Output) : Type 0 where
+  Short : (NoWork old → ⊥) → OutputStays o o' → WorkBreaks old new o o'
+  Cut : (work : Work) → WorkComes old work → WorkLeads old new work → WorkCuts new work o o' → WorkBreaks old new o o'
 
 -- the next event of the lines: some bytes were passed, and the event and what comes behind it are what they said
 abbrev pub IsNextOf : Input → Input → CodeEvent → Type 0
@@ -122,8 +140,9 @@ pub data Next : Type 0 where
 abbrev pub CantTake : Engine → Reading → Type 0
 CantTake e r = IfSome r.next (λ event. may_take e.core (shown_event event) ≡ false)
 
+-- an event is taken only where no end was found
 abbrev pub NextComes : Engine → Reading → Next → Type 0
-NextComes e r (Takes event) = (r.next ≡ Some event) × (may_take e.core (shown_event event) ≡ true)
+NextComes e r (Takes event) = (r.next ≡ Some event) × (r.found ≡ None) × (may_take e.core (shown_event event) ≡ true)
 NextComes e r (Moves thing) = CantTake e r × (is_something thing ≡ true) × exchanged.Comes e thing
 
 -- the event was taken, and it is held no more
@@ -195,6 +214,20 @@ pub record Ends (t t' : State) (old now : Outer) : Type 0 where
   pub gathered : t'.gathered ≡ []
   pub written : Keeps (text_in (output_of t old)) now.holds
 
+-- nothing can be done any more, and what was gathered could not all be written: it is written or gathered still
+pub record EndsUnwritten (t t' : State) (old now : Outer) : Type 0 where
+  pub looks : Looks (input_of t old) (input_of t' now)
+  pub engine : t'.engine ≡ t.engine
+  pub left : NothingLeft t'.engine t'.reading
+  pub kept : Keeps (text_in (output_of t old)) (text_in (output_of t' now))
+
+-- a step stopped the run for a fault of the sink or for want of memory: work broke off; or there was none, and memory was short for the next
+-- event or for requests, and nothing was written; or what was gathered could not all be written at the end
+pub data Breaks (t t' : State) (old now : Outer) : Type 0 where
+  AtWork : WorkBreaks t.engine t'.engine (output_of t old) (output_of t' now) → Breaks t t' old now
+  AtInput : NoWork t.engine → OutputStays (output_of t old) (output_of t' now) → Breaks t t' old now
+  AtEnd : EndsUnwritten t t' old now → Breaks t t' old now
+
 -- a fact of an end by what was found at the input; a program has no fault by then
 abbrev pub ByEnd : Type 0 → End → Type 0
 ByEnd P end.Ok = P
@@ -204,6 +237,20 @@ ByEnd P end.Read = P
 ByEnd P end.Write = Unit {0}
 ByEnd P end.NoMemory = Unit {0}
 
+-- a fact of an end by a fault of the sink or by want of memory
+abbrev pub ByStop : Type 0 → End → Type 0
+ByStop P end.Ok = Unit {0}
+ByStop P (end.Input line kind) = Unit {0}
+ByStop P (end.Program line kind) = Unit {0}
+ByStop P end.Read = Unit {0}
+ByStop P end.Write = P
+ByStop P end.NoMemory = P
+
+abbrev pub DidStop : Type 0 → Did → Type 0
+DidStop P did.Went = Unit {0}
+DidStop P did.Took = Unit {0}
+DidStop P (did.End end) = ByStop P end
+
 -- a fact where something was done, and one of an end
 abbrev pub ByDid : Type 0 → Type 0 → Did → Type 0
 ByDid P Q did.Went = P
@@ -211,7 +258,12 @@ ByDid P Q did.Took = P
 ByDid P Q (did.End end) = ByEnd Q end
 
 abbrev pub EndDoes : State → State → Outer → Outer → End → Type 0
-EndDoes t t' old now end = ByEnd (Ends t t' old now) end
+EndDoes t t' old now end.Ok = Ends t t' old now
+EndDoes t t' old now (end.Input line kind) = Ends t t' old now
+EndDoes t t' old now (end.Program line kind) = ⊥
+EndDoes t t' old now end.Read = Ends t t' old now
+EndDoes t t' old now end.Write = Breaks t t' old now
+EndDoes t t' old now end.NoMemory = Breaks t t' old now
 
 abbrev pub StepDoes : State → State → Outer → Outer → Step → Type 0
 StepDoes t t' old now step.Went = Does t t' old now

@@ -6,10 +6,10 @@ ghost use Rattle.ax_core.specs.May.{has_mail};
 ghost use Rattle.ax_task.specs.Reads.{sink_end, is_stopped};
 ghost use Rattle.ax_task.specs.Engines.{IsReady, IsQuiet};
 ghost use Rattle.ax_task.specs.Exchanged.{NothingWaits};
-ghost use Rattle.ax_task.specs.Due.{IsFree, IsLooked, Goes};
+ghost use Rattle.ax_task.specs.Due.{IsFree, IsLooked, HeldBeforeEnd, Goes};
 ghost use Rattle.ax_task.specs.Tasks.{Outer, MayRead, IsFound, Finds, Steps, TakesHeld, EndsWell};
 ghost use Rattle.ax_task.specs.Causes.{IsAtRest, EndsAtRest, EndWrites, DidCounts};
-ghost use Rattle.ax_task.specs.Things.{NoWork, CantTake, DoesNext, NothingLeft, StaysDone, LooksAndDoes, LooksAndRests, Does, Rests, ByEnd, ByDid};
+ghost use Rattle.ax_task.specs.Things.{NoWork, CantTake, DoesNext, NothingLeft, StaysDone, LooksAndDoes, LooksAndRests, Does, Rests, Breaks, ByEnd, ByDid, DidStop};
 ghost use Rattle.ax_task.specs.Steady.{CanGoOn, Where};
 
 use crate::end::End;
@@ -58,12 +58,14 @@ impl Driver {
     // Takes the event that is held, where there is one and it can be taken. Whether it was.
     fn take_held(&mut self) -> Result<bool, NoMemory>
         requires ready { IsReady self.old.engine }
+        requires none { HeldBeforeEnd self.old.reading }
         ensures taken { IfOk result (λ taken. taken ≡ true → TakesHeld self.old.engine self.new.engine self.old.reading self.new.reading) }
         ensures same { IfOk result (λ taken. taken ≡ false → (self.new.engine ≡ self.old.engine) × (self.new.reading ≡ self.old.reading)) }
         ensures blocked { IfOk result (λ taken. taken ≡ false → IfSome self.new.reading.next (λ _. IsFree self.new.engine.core → ⊥)) }
         ensures took { IfOk result (λ taken. taken ≡ true → DoesNext self.old.engine self.new.engine self.old.reading self.new.reading) }
         ensures cant { IfOk result (λ taken. taken ≡ false → CantTake self.old.engine self.old.reading) }
         ensures found { self.new.reading.found ≡ self.old.reading.found }
+        ensures none { HeldBeforeEnd self.new.reading }
     {
         let Some(event) = self.reading.next.take() else {
             return Ok(false);
@@ -87,6 +89,7 @@ impl Driver {
         requires ready { IsReady self.old.engine }
         requires may { MayRead lines.old self.old.reading.found }
         requires found { IsFound self.old.reading.found }
+        requires none { HeldBeforeEnd self.old.reading }
         ensures steps { Steps self.old.engine self.new.engine self.old.reading self.new.reading lines.old lines.new
             (record { left = S.left input.old; reads = S.faults input.old; holds = append_known (K.holds out.old.inner.now) out.old.room.now; writes = K.counts out.old.inner.now })
             (record { left = S.left input.new; reads = S.faults input.new; holds = append_known (K.holds out.new.inner.now) out.new.room.now; writes = K.counts out.new.inner.now }) result }
@@ -96,6 +99,7 @@ impl Driver {
         ensures same { out.new.inner.ghost_name ≡ out.old.inner.ghost_name }
         ensures does { ByDid (Does (record { engine = self.old.engine; reading = self.old.reading; lines = lines.old; gathered = out.old.room.now }) (record { engine = self.new.engine; reading = self.new.reading; lines = lines.new; gathered = out.new.room.now }) (record { left = S.left input.old; reads = S.faults input.old; holds = K.holds out.old.inner.now; writes = K.counts out.old.inner.now }) (record { left = S.left input.new; reads = S.faults input.new; holds = K.holds out.new.inner.now; writes = K.counts out.new.inner.now }))
             (Rests (record { engine = self.old.engine; reading = self.old.reading; lines = lines.old; gathered = out.old.room.now }) (record { engine = self.new.engine; reading = self.new.reading; lines = lines.new; gathered = out.new.room.now }) (record { left = S.left input.old; reads = S.faults input.old; holds = K.holds out.old.inner.now; writes = K.counts out.old.inner.now }) (record { left = S.left input.new; reads = S.faults input.new; holds = K.holds out.new.inner.now; writes = K.counts out.new.inner.now })) result }
+        ensures breaks { DidStop (Breaks (record { engine = self.old.engine; reading = self.old.reading; lines = lines.old; gathered = out.old.room.now }) (record { engine = self.new.engine; reading = self.new.reading; lines = lines.new; gathered = out.new.room.now }) (record { left = S.left input.old; reads = S.faults input.old; holds = K.holds out.old.inner.now; writes = K.counts out.old.inner.now }) (record { left = S.left input.new; reads = S.faults input.new; holds = K.holds out.new.inner.now; writes = K.counts out.new.inner.now })) result }
         ensures steady { Where result (CanGoOn self.new.engine self.new.reading lines.new) }
         ensures counts { DidCounts (K.counts out.old.inner.now) (K.counts out.new.inner.now) result }
     {
@@ -112,6 +116,7 @@ impl Driver {
         requires ready { IsReady self.old.engine }
         requires may { MayRead lines.old self.old.reading.found }
         requires found { IsFound self.old.reading.found }
+        requires none { HeldBeforeEnd self.old.reading }
         requires quiet { IsQuiet self.old.engine.core }
         requires mails { has_mail self.old.engine.core ≡ false }
         requires work { NoWork self.old.engine }
@@ -140,6 +145,7 @@ impl Driver {
         requires work { NoWork self.old.engine }
         requires looked { IsLooked self.old.reading }
         requires found { IsFound self.old.reading.found }
+        requires none { HeldBeforeEnd self.old.reading }
         ensures steps { (now : Outer) → Steps self.old.engine self.new.engine self.old.reading self.new.reading lines.now lines.now now now result }
         ensures goes { Goes self.old.engine self.new.engine self.old.reading self.new.reading lines.now lines.now result }
         ensures found { self.new.reading.found ≡ self.old.reading.found }
@@ -147,6 +153,7 @@ impl Driver {
         ensures counts { (c : Counts) → DidCounts c c result }
         ensures does { ByDid (DoesNext self.old.engine self.new.engine self.old.reading self.new.reading) (StaysDone self.old.engine self.new.engine self.old.reading self.new.reading) result }
         ensures ready { Where result (IsReady self.new.engine) }
+        ensures none { HeldBeforeEnd self.new.reading }
     {
         match self.take_held() {
             Ok(true) => Did::Took,

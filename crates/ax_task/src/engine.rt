@@ -1,7 +1,7 @@
 //! The controller with its shards: what there is to do between two events.
-ghost use Rattle.std.specs.Prelude.{◌≡◌, ◌<◌, [], true, false, int_lt, IfOk, OnOk, OnErr};
+ghost use Rattle.std.specs.Prelude.{◌≡◌, ◌<◌, ◌⊎◌, [], true, false, int_lt, IfOk, OnOk, OnErr};
 ghost use Rattle.std.specs.Io.KnownBytes.{Appends, append_known};
-ghost use Rattle.ax_base.specs.Outside.{OwnCounts};
+ghost use Rattle.ax_base.specs.Outside.{OwnCounts, AppendsSome};
 ghost use Rattle.ax_machine.specs.Entries.{says, text_of};
 ghost use Rattle.ax_machine.specs.Events.{Mark};
 ghost use Rattle.ax_input.specs.Shown.{shown_event};
@@ -14,7 +14,7 @@ ghost use Rattle.ax_core.specs.Sound.{StandsFor};
 ghost use Rattle.ax_task.specs.Exchanged.{LessIsLeft};
 ghost use Rattle.ax_task.specs.Due.{IsFree};
 ghost use Rattle.ax_task.specs.Calls.{HasFired, HasRun, HasMarked, HasTaken};
-ghost use Rattle.ax_task.specs.Things.{OutputStays, SendsThrough, DoesWork, NoWork};
+ghost use Rattle.ax_task.specs.Things.{OutputStays, SendsThrough, CutsThrough, DoesWork, WorkBreaks, NoWork};
 ghost use Rattle.ax_task.specs.Unused.{IsUnused, program_of};
 ghost use Rattle.ax_task.specs.Engines.{Stands, ShardsStay, batch_of, order_of, IsReady, MovesOn, Takes, Writes, WritesSome, IsQuiet, WroteMarker, WritesPart, may_take};
 
@@ -104,6 +104,7 @@ impl Engine {
         ensures falls { OnOk result (LessIsLeft self.old self.new) }
         ensures ran { OnOk result ((f : AnyEffects) × HasRun self.old self.new f × Appends (K.holds out.old) (K.holds out.new) (text_of (says f.key f.outs))) }
         ensures part { OnErr result (WritesSome self.old (K.holds out.old) (K.holds out.new)) }
+        ensures broke { OnErr result ((out.new ≡ out.old) ⊎ ((f : AnyEffects) × HasRun self.old self.new f × AppendsSome (K.holds out.old) (K.holds out.new) (text_of (says f.key f.outs)))) }
         ensures counts { OwnCounts (K.counts out.old) (K.counts out.new) result }
         ensures base { K.base out.new ≡ K.base out.old }
     {
@@ -182,6 +183,7 @@ impl Engine {
         ensures sent { IfOk result (λ sent. sent ≡ true → SendsThrough self.old self.new (record { holds = K.holds out.old.inner.now; gathered = out.old.room.now }) (record { holds = K.holds out.new.inner.now; gathered = out.new.room.now })) }
         ensures unwritten { IfOk result (λ sent. sent ≡ false → OutputStays (record { holds = K.holds out.old.inner.now; gathered = out.old.room.now }) (record { holds = K.holds out.new.inner.now; gathered = out.new.room.now })) }
         ensures part { OnErr result (WritesSome self.old (append_known (K.holds out.old.inner.now) out.old.room.now) (append_known (K.holds out.new.inner.now) out.new.room.now)) }
+        ensures broke { OnErr result (CutsThrough self.old self.new (record { holds = K.holds out.old.inner.now; gathered = out.old.room.now }) (record { holds = K.holds out.new.inner.now; gathered = out.new.room.now })) }
         ensures counts { OwnCounts (K.counts out.old.inner.now) (K.counts out.new.inner.now) result }
         ensures same { out.new.inner.ghost_name ≡ out.old.inner.ghost_name }
     {
@@ -206,6 +208,7 @@ impl Engine {
         ensures no_work { IfOk result (λ done. done ≡ false → NoWork self.old) }
         ensures unwritten { IfOk result (λ done. done ≡ false → OutputStays (record { holds = K.holds out.old.inner.now; gathered = out.old.room.now }) (record { holds = K.holds out.new.inner.now; gathered = out.new.room.now })) }
         ensures part { OnErr result (WritesSome self.old (append_known (K.holds out.old.inner.now) out.old.room.now) (append_known (K.holds out.new.inner.now) out.new.room.now)) }
+        ensures breaks { OnErr result (WorkBreaks self.old self.new (record { holds = K.holds out.old.inner.now; gathered = out.old.room.now }) (record { holds = K.holds out.new.inner.now; gathered = out.new.room.now })) }
         ensures counts { OwnCounts (K.counts out.old.inner.now) (K.counts out.new.inner.now) result }
         ensures same { out.new.inner.ghost_name ≡ out.old.inner.ghost_name }
     {

@@ -10,8 +10,12 @@ ghost use Rattle.ax_task.specs.Clause.{Holds, RunEnds, Stops};
 ghost use Rattle.ax_task.specs.Tasks.{Outer};
 ghost use Rattle.ax_task.specs.Causes.{StepIsCaused};
 ghost use Rattle.ax_task.specs.Running.{State};
-ghost use Rattle.ax_task.specs.Things.{StepDoes};
-ghost use Rattle.ax_task.specs.Laws.{MayEndWith, MayHaveWritten, TextsTell, IsStop, WroteAPart, WroteAll, IsFoundEnd, LeftNothing};
+ghost use Rattle.ax_task.specs.Engines.{IsReady};
+ghost use Rattle.ax_task.specs.Exchanged.{NothingWaits};
+ghost use Rattle.ax_task.specs.Due.{IsFree};
+ghost use Rattle.ax_task.specs.Things.{NoWork, StepDoes};
+ghost use Rattle.ax_task.specs.Laws.{MayEndWith, MayHaveWritten, TextsTell, OfWholeLines, PartOf, WroteWhatIsRead, WroteAPart, WroteAll, IsFoundEnd, NothingGoesOn, LeftNothing};
+ghost use Rattle.ax_task.specs.declared.engine.Engine.{Engine as AnyEngine};
 ghost use Rattle.ax_task.specs.declared.end.End.{End};
 ghost use Rattle.ax_task.specs.declared.end.End.TheVariants as end;
 ghost use Rattle.ax_task.specs.declared.step.Step.TheVariants as step;
@@ -34,11 +38,15 @@ pub fn plain_list_may_be_written()
     ensures so_far { (m : ℕ) (serial : Bool) (bytes : List ℕ) (p : Program) (s : Stream) → parse bytes ≡ Runs p s → MayHaveWritten m serial (parse bytes) (sync m p s.events).entries }
 {}
 
-/// What `run_task_alone` says at a read fault, a write fault and want of memory, means: of the bytes of the input some were taken,
-/// and a first part was written of the text of a list that may be written so far for the events of the whole lines among them;
-/// nothing, where these lines say no program.
+/// What `run_task_alone` says at a read fault, a write fault and want of memory, means: of the bytes of the input some were taken.
+/// At `Read` the whole lines among them end before the program section does, and nothing was written; or they say a program and
+/// events without a fault, and the text of a list was written that is lawful for all of these events. At `Write` they say a program,
+/// and a first part was written of the text of a list that may be written so far for their events. At `NoMemory` it is the same, or
+/// they say no program and nothing was written.
 pub fn stopped_runs_wrote_a_part()
-    ensures { (m : ℕ) (serial : Bool) (out : Holds) (bytes left : List ℕ) (e : End) → IsStop e → Stops m serial out bytes left e → WroteAPart m serial out bytes left }
+    ensures read { (m : ℕ) (serial : Bool) (out : Holds) (bytes left : List ℕ) → Stops m serial out bytes left end.Read → OfWholeLines bytes left (WroteWhatIsRead m serial out) }
+    ensures write { (m : ℕ) (serial : Bool) (out : Holds) (bytes left : List ℕ) → Stops m serial out bytes left end.Write → OfWholeLines bytes left (WroteAPart m serial out) }
+    ensures memory { (m : ℕ) (serial : Bool) (out : Holds) (bytes left : List ℕ) → Stops m serial out bytes left end.NoMemory → OfWholeLines bytes left (λ lines. PartOf m serial out (parse lines)) }
 {}
 
 /// What it says at the other ends, means: at `Ok` the input has no fault and nothing is left of it, and the text of a list was
@@ -50,8 +58,15 @@ pub fn runs_that_end_wrote_all()
     ensures program { (m : ℕ) (serial : Bool) (out : Holds) (input : Parsed) (left : List ℕ) (line kind : ℕ) → RunEnds m serial out input left (end.Program line kind) → (input ≡ BadProgram line kind) × Appends out.old out.new [] }
 {}
 
-/// Where a step ends a run by `Ok`, `Input` or `Read`, that is what was found at the input, nothing is in flight, no marker is to be
-/// sent, and nothing is gathered that isn't written.
+/// Where a step ends a run by `Ok`, `Input` or `Read`, that is what was found at the input; none of the things that a step does can
+/// be done, nothing is in flight, no marker is to be sent, no key is idle, and nothing is gathered that isn't written.
 pub fn ended_steps_left_nothing()
     ensures { (t u : State) (old now : Outer) (before behind : Counts) (e : End) → IsFoundEnd e → StepDoes t u old now (step.End e) → StepIsCaused u.engine.core u.reading.found before behind (step.End e) → LeftNothing u e }
+{}
+
+/// Where no key may fire, no mail waits, no marker is to be sent, no request waits and no batch is out, nothing is in flight: the
+/// controller stands for no control but such in which nothing goes on. So a run never stops with a row that isn't finished.
+pub fn tasks_without_work_are_at_rest()
+    ensures free { (e : AnyEngine) → IsReady e → NoWork e → NothingWaits e → IsFree e.core }
+    ensures none { (e : AnyEngine) → IsReady e → NoWork e → NothingWaits e → NothingGoesOn e.core }
 {}

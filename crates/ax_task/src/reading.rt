@@ -1,6 +1,6 @@
 //! The event that was read and not yet taken, and what the reader of events found behind the last.
 ghost use Rattle.std.specs.Prelude.{◌≡◌, ◌≤◌, None, false, IfSome, OnOk, OnErr};
-ghost use Rattle.ax_task.specs.Due.{due, IsLooked};
+ghost use Rattle.ax_task.specs.Due.{due, IsLooked, HeldBeforeEnd};
 ghost use Rattle.ax_task.specs.Things.{IsNextOf, Looks};
 ghost use Rattle.ax_task.specs.Tasks.{Finds, MayRead, ReadsOn, ReadsShort};
 
@@ -47,6 +47,7 @@ impl Reading {
         ensures reads { OnOk result (ReadsOn self.old self.new lines.old lines.new (S.left input.old) (S.left input.new) (S.faults input.old) (S.faults input.new)) }
         ensures may { OnOk result (MayRead lines.new self.new.found) }
         ensures looked { OnOk result (IsLooked self.new) }
+        ensures none { HeldBeforeEnd self.old → OnOk result (HeldBeforeEnd self.new) }
         ensures due { OnOk result (due self.new lines.new ≤ due self.old lines.old) }
         ensures short { OnErr result (ReadsShort self.old lines.old (S.left input.old) (S.left input.new) (S.faults input.old)) }
         ensures count { OnErr result (S.faults input.new ≡ S.faults input.old) }
@@ -72,6 +73,7 @@ impl Reading {
         ensures reads { OnOk result (ReadsOn self.old self.new lines.old lines.new (S.left input.old) (S.left input.new) (S.faults input.old) (S.faults input.new)) }
         ensures may { OnOk result (MayRead lines.new self.new.found) }
         ensures looked { OnOk result (IsLooked self.new) }
+        ensures none { OnOk result (HeldBeforeEnd self.new) }
         ensures due { OnOk result (due self.new lines.new ≤ due self.old lines.old) }
         ensures short { OnErr result (ReadsShort self.old lines.old (S.left input.old) (S.left input.new) (S.faults input.old)) }
         ensures count { OnErr result (S.faults input.new ≡ S.faults input.old) }

@@ -12,18 +12,18 @@ ghost use Rattle.ax_core.specs.declared.settings.Settings.{Settings as AnySettin
 ghost use Rattle.ax_core.specs.declared.controller.Controller.{Controller as AnyController};
 ghost use Rattle.ax_core.specs.Sound.{InRange};
 ghost use Rattle.ax_task.specs.Parse.{parse, stream_of, first_last};
-ghost use Rattle.ax_task.specs.Reads.{end_in_section};
+ghost use Rattle.ax_task.specs.Reads.{end_in_section, is_stopped};
 ghost use Rattle.ax_task.specs.Clause.{WritesLawful, StreamEnds, RunEnds, Stops, EndCounts};
 ghost use Rattle.ax_task.specs.Passes.{events_at, feed_of, Took, Wrote};
 ghost use Rattle.ax_task.specs.Engines.{IsReady, batch_of, order_of};
-ghost use Rattle.ax_task.specs.Due.{Goes, due};
+ghost use Rattle.ax_task.specs.Due.{Goes, due, HeldBeforeEnd};
 ghost use Rattle.ax_task.specs.Steady.{CanGoOn, Where};
-ghost use Rattle.ax_task.specs.Things.{Does, Rests, Ends, ByEnd, ByDid, StepDoes};
+ghost use Rattle.ax_task.specs.Things.{Does, Rests, Ends, Breaks, ByEnd, ByStop, ByDid, DidStop, StepDoes};
 ghost use Rattle.ax_task.specs.Tasks.{Outer, From, MayRead, IsFound, Finds, HasEnded};
 ghost use Rattle.ax_task.specs.Tasks as tasks;
 ghost use Rattle.ax_task.specs.Causes.{IsAtRest, EndsAtRest, EndWrites, DidCounts, StepIsCaused};
 ghost use Rattle.ax_task.specs.Unused.{IsUnused, program_of};
-ghost use Rattle.ax_task.specs.Running.{State as AnyState, state_of, has_ended, found_of, controller_of, took_event, start, IsSteady, StaysSteady, IsRunning, DidLeaves, GoesOn, ComesNearer, is_end, step_of, RunEndsAs};
+ghost use Rattle.ax_task.specs.Running.{State as AnyState, state_of, has_ended, found_of, controller_of, took_event, start, IsFresh, IsSteady, StaysSteady, IsRunning, DidLeaves, GoesOn, ComesNearer, is_end, step_of, RunEndsAs};
 ghost use Rattle.ax_task.specs.declared.end.End.{End as AnyEnd};
 ghost use Rattle.ax_task.specs.declared.engine.Engine.{Engine as AnyEngine};
 ghost use Rattle.ax_task.specs.declared.reading.Reading.{Reading as AnyReading};
@@ -93,6 +93,7 @@ impl Task {
         requires batch { 0 < c.now.batch }
         ensures begins { IfOk result (λ t. (p : CodeProgram) (now : Outer) → program_of core ≡ p → IsRunning c.now.settings p (start p last_id lines now) (state_of t) now) }
         ensures found { IfOk result (λ t. found_of t ≡ None) }
+        ensures fresh { IfOk result (λ t. IsFresh (state_of t)) }
         ensures ended { IfOk result (λ t. has_ended t ≡ false) }
         ensures core { IfOk result (λ t. controller_of t ≡ core) }
         ensures steady { IfOk result IsSteady }
@@ -134,6 +135,8 @@ impl Task {
     /// - `End` with `Ok`, `Input` or `Read`: it is what `found` tells, nothing is in flight, and no marker is to be sent. All lines
     ///   of the events that were read are written.
     /// - `End` with `Write`: the count of `out` rose in this step. With `NoMemory`: at any time. `out` has a part of what may be written.
+    ///   What broke off is named: a mail or a marker, of whose text a first part was written or gathered behind what was gathered; or
+    ///   what was gathered, where nothing else was left to do. Where memory was short for anything else, nothing was written.
     /// - `End` with `Program` never comes.
     pub fn step<S: Source, K: Sink>(&mut self, input: &mut S, out: &mut K) -> Step
         requires going { has_ended self.old ≡ false }
@@ -225,6 +228,10 @@ fn finish_end<K: Sink, B: Begun>(end: End, out: &mut Gather<'_, K, B>) -> End
     ensures ends { (t : AnyState) (old : Outer) (e : AnyEngine) (r : AnyReading) (lines : Reader) (left : Option (List ℕ)) (reads : ℕ)
         → ByEnd (Rests t (record { engine = e; reading = r; lines = lines; gathered = out.old.room.now }) old (record { left = left; reads = reads; holds = K.holds out.old.inner.now; writes = K.counts out.old.inner.now })) end
         → ByEnd (Ends t (record { engine = e; reading = r; lines = lines; gathered = out.new.room.now }) old (record { left = left; reads = reads; holds = K.holds out.new.inner.now; writes = K.counts out.new.inner.now })) result }
+    ensures breaks { (t : AnyState) (old : Outer) (e : AnyEngine) (r : AnyReading) (lines : Reader) (left : Option (List ℕ)) (reads : ℕ)
+        → ByEnd (Rests t (record { engine = e; reading = r; lines = lines; gathered = out.old.room.now }) old (record { left = left; reads = reads; holds = K.holds out.old.inner.now; writes = K.counts out.old.inner.now })) end → ByStop (Breaks t (record { engine = e; reading = r; lines = lines; gathered = out.old.room.now }) old (record { left = left; reads = reads; holds = K.holds out.old.inner.now; writes = K.counts out.old.inner.now })) end
+        → ByStop (Breaks t (record { engine = e; reading = r; lines = lines; gathered = out.new.room.now }) old (record { left = left; reads = reads; holds = K.holds out.new.inner.now; writes = K.counts out.new.inner.now })) result }
+    ensures still { is_stopped end ≡ true → out.new ≡ out.old }
     ensures same { out.new.inner.ghost_name ≡ out.old.inner.ghost_name }
 {
     if is_stopped(&end) {
@@ -248,6 +255,9 @@ fn finish<K: Sink, B: Begun>(did: Did, out: &mut Gather<'_, K, B>) -> Did
     ensures does { (t : AnyState) (old : Outer) (e : AnyEngine) (r : AnyReading) (lines : Reader) (left : Option (List ℕ)) (reads : ℕ)
         → ByDid (Does t (record { engine = e; reading = r; lines = lines; gathered = out.old.room.now }) old (record { left = left; reads = reads; holds = K.holds out.old.inner.now; writes = K.counts out.old.inner.now })) (Rests t (record { engine = e; reading = r; lines = lines; gathered = out.old.room.now }) old (record { left = left; reads = reads; holds = K.holds out.old.inner.now; writes = K.counts out.old.inner.now })) did
         → ByDid (Does t (record { engine = e; reading = r; lines = lines; gathered = out.new.room.now }) old (record { left = left; reads = reads; holds = K.holds out.new.inner.now; writes = K.counts out.new.inner.now })) (Ends t (record { engine = e; reading = r; lines = lines; gathered = out.new.room.now }) old (record { left = left; reads = reads; holds = K.holds out.new.inner.now; writes = K.counts out.new.inner.now })) result }
+    ensures breaks { (t : AnyState) (old : Outer) (e : AnyEngine) (r : AnyReading) (lines : Reader) (left : Option (List ℕ)) (reads : ℕ)
+        → ByDid (Does t (record { engine = e; reading = r; lines = lines; gathered = out.old.room.now }) old (record { left = left; reads = reads; holds = K.holds out.old.inner.now; writes = K.counts out.old.inner.now })) (Rests t (record { engine = e; reading = r; lines = lines; gathered = out.old.room.now }) old (record { left = left; reads = reads; holds = K.holds out.old.inner.now; writes = K.counts out.old.inner.now })) did → DidStop (Breaks t (record { engine = e; reading = r; lines = lines; gathered = out.old.room.now }) old (record { left = left; reads = reads; holds = K.holds out.old.inner.now; writes = K.counts out.old.inner.now })) did
+        → DidStop (Breaks t (record { engine = e; reading = r; lines = lines; gathered = out.new.room.now }) old (record { left = left; reads = reads; holds = K.holds out.new.inner.now; writes = K.counts out.new.inner.now })) result }
     ensures same { out.new.inner.ghost_name ≡ out.old.inner.ghost_name }
 {
     match did {
@@ -273,6 +283,7 @@ fn advance<S: Source, K: Sink, B: Begun>(
     requires ready { IsReady driver.old.engine }
     requires may { MayRead lines.old driver.old.reading.found }
     requires found { IsFound driver.old.reading.found }
+    requires none { HeldBeforeEnd driver.old.reading }
     ensures leaves { (s : AnySettings) (p : CodeProgram) (from : From)
         → IsRunning s p from (record { engine = driver.old.engine; reading = driver.old.reading; lines = lines.old; gathered = room.old }) (record { left = S.left input.old; reads = S.faults input.old; holds = K.holds out.old; writes = K.counts out.old })
         → DidLeaves s p from (record { engine = driver.new.engine; reading = driver.new.reading; lines = lines.new; gathered = room.new }) (record { left = S.left input.new; reads = S.faults input.new; holds = K.holds out.new; writes = K.counts out.new }) result }
@@ -283,6 +294,7 @@ fn advance<S: Source, K: Sink, B: Begun>(
     ensures steady { Where result (CanGoOn driver.new.engine driver.new.reading lines.new) }
     ensures does { ByDid (Does (record { engine = driver.old.engine; reading = driver.old.reading; lines = lines.old; gathered = room.old }) (record { engine = driver.new.engine; reading = driver.new.reading; lines = lines.new; gathered = room.new }) (record { left = S.left input.old; reads = S.faults input.old; holds = K.holds out.old; writes = K.counts out.old }) (record { left = S.left input.new; reads = S.faults input.new; holds = K.holds out.new; writes = K.counts out.new }))
         (Ends (record { engine = driver.old.engine; reading = driver.old.reading; lines = lines.old; gathered = room.old }) (record { engine = driver.new.engine; reading = driver.new.reading; lines = lines.new; gathered = room.new }) (record { left = S.left input.old; reads = S.faults input.old; holds = K.holds out.old; writes = K.counts out.old }) (record { left = S.left input.new; reads = S.faults input.new; holds = K.holds out.new; writes = K.counts out.new })) result }
+    ensures breaks { DidStop (Breaks (record { engine = driver.old.engine; reading = driver.old.reading; lines = lines.old; gathered = room.old }) (record { engine = driver.new.engine; reading = driver.new.reading; lines = lines.new; gathered = room.new }) (record { left = S.left input.old; reads = S.faults input.old; holds = K.holds out.old; writes = K.counts out.old }) (record { left = S.left input.new; reads = S.faults input.new; holds = K.holds out.new; writes = K.counts out.new })) result }
 {
     let mut sink = Gather::<K, B>::new(spare, out);
     mem::swap(sink.room, room);

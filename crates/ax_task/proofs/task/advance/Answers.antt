@@ -7,8 +7,8 @@ use Rattle.ax_task.specs.Running.{State, IsRunning, DidLeaves}
 use Rattle.ax_task.proofs.Running.{moved_in, gathered_as}
 use Rattle.ax_base.specs.Outside.{Counts}
 use Rattle.ax_task.specs.Causes.{DidCounts}
-use Rattle.ax_task.specs.Things.{Does, Ends, ByDid}
-use Rattle.ax_task.proofs.Stepping.{does_from}
+use Rattle.ax_task.specs.Things.{Does, Ends, Breaks, ByDid, DidStop}
+use Rattle.ax_task.proofs.Stepping.{does_from, breaks_from}
 use Rattle.ax_task.proofs.task.advance.Goals as goal
 
 pub returns-clause-leaves : goal.returns-clause-leaves
@@ -70,5 +70,31 @@ returns-clause-does g c =
     let t' : State = record { engine = worked.self.engine; reading = worked.self.reading; lines = worked.lines; gathered = r } in
     let now : Outer = record { left = left worked.input; reads = faults worked.input; holds = holds k; writes = counts k } in
     ByDid (Does t t' old now) (Ends t t' old now) c.finish-did.result in
+    let named = sym (c.finish-did.ensures.same ∙ c.work_on-worked.ensures.same ∙ c.new-sink.ensures.same) in
+    subst (λ k. Behind c.swap-2.new.y k) (sym (c.out-1.given.1 named)) (subst (λ (r : List ℕ). Behind r c.finish-did.new.out.inner.now) (sym c.swap-2.ensures.y_after) last)
+
+pub returns-clause-breaks : goal.returns-clause-breaks
+returns-clause-breaks g c =
+    let holds = g.K.Sink.holds in
+    let counts = g.K.Sink.counts in
+    let left = g.S.Source.left in
+    let faults = g.S.Source.faults in
+    let t : State = record { engine = c.args.driver.now.engine; reading = c.args.driver.now.reading; lines = c.args.lines.now; gathered = c.args.room.now } in
+    let old : Outer = record { left = left c.args.input.now; reads = faults c.args.input.now; holds = holds c.args.out.now; writes = counts c.args.out.now } in
+    let sink = c.new-sink.result in
+    let worked = c.work_on-worked.new in
+    let room = worked.out.room.now in
+    let inner = worked.out.inner.now in
+    let done = does_from t (record { engine = worked.self.engine; reading = worked.self.reading; lines = worked.lines; gathered = room })
+    old (record { left = left worked.input; reads = faults worked.input; holds = holds inner; writes = counts inner })
+    (holds sink.inner.now) (counts sink.inner.now) c.swap.new.x c.work_on-worked.result (ap holds c.new-sink.ensures.now) (ap counts c.new-sink.ensures.now) c.swap.ensures.x_after c.work_on-worked.ensures.does in
+    let first = breaks_from t (record { engine = worked.self.engine; reading = worked.self.reading; lines = worked.lines; gathered = room })
+    old (record { left = left worked.input; reads = faults worked.input; holds = holds inner; writes = counts inner })
+    (holds sink.inner.now) (counts sink.inner.now) c.swap.new.x c.work_on-worked.result (ap holds c.new-sink.ensures.now) (ap counts c.new-sink.ensures.now) c.swap.ensures.x_after c.work_on-worked.ensures.breaks in
+    let last = c.finish-did.ensures.breaks t old worked.self.engine worked.self.reading worked.lines (left worked.input) (faults worked.input) done first in
+    let Behind : List ℕ → _ → Type 0 = λ r k.
+    let t' : State = record { engine = worked.self.engine; reading = worked.self.reading; lines = worked.lines; gathered = r } in
+    let now : Outer = record { left = left worked.input; reads = faults worked.input; holds = holds k; writes = counts k } in
+    DidStop (Breaks t t' old now) c.finish-did.result in
     let named = sym (c.finish-did.ensures.same ∙ c.work_on-worked.ensures.same ∙ c.new-sink.ensures.same) in
     subst (λ k. Behind c.swap-2.new.y k) (sym (c.out-1.given.1 named)) (subst (λ (r : List ℕ). Behind r c.finish-did.new.out.inner.now) (sym c.swap-2.ensures.y_after) last)

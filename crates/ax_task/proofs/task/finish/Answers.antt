@@ -24,3 +24,6 @@ returns-in-End-clause-counts g c = λ before h. c.finish_end.ensures.counts befo
 
 pub returns-in-End-clause-does : goal.returns-in-End-clause-does
 returns-in-End-clause-does g c = λ t old e r lines left reads h. c.finish_end.ensures.ends t old e r lines left reads (rw c.in-End.is at h)
+
+pub returns-in-End-clause-breaks : goal.returns-in-End-clause-breaks
+returns-in-End-clause-breaks g c = λ t old e r lines left reads h k. c.finish_end.ensures.breaks t old e r lines left reads (rw c.in-End.is at h) (rw c.in-End.is at k)

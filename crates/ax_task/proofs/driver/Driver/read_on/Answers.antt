@@ -53,4 +53,4 @@ returns-in-Ok-clause-steady g c =
     let faults = g.S.Source.faults in
     steady_behind c.take_or_exchange.new.self.engine c.look.new.self c.take_or_exchange.new.self.reading c.look.new.lines c.take_or_exchange.result c.take_or_exchange.ensures.found c.in-Ok.ensures.may
     (found_on c.args.self.now.reading.found c.look.new.self.found (left c.args.input.now) (left c.look.new.input) (faults c.args.input.now) (faults c.look.new.input) c.requires.found c.look.ensures.finds)
-    c.take_or_exchange.ensures.ready
+    c.take_or_exchange.ensures.none c.take_or_exchange.ensures.ready

@@ -1,6 +1,7 @@
 use Rattle.std.proofs.Common.{◌≡◌, true, false, rules}
 use Rattle.ax_task.proofs.TaskLemmas.{took_on, same_underway, short_here}
 use Rattle.ax_input.specs.Shown.{shown_event}
+use Rattle.ax_task.proofs.ReadingLemmas.{held_as}
 use Rattle.ax_task.proofs.Stepping.{next_as}
 use Rattle.ax_task.proofs.Going.{took_due, took_ready, goes_as}
 use Rattle.ax_task.proofs.driver.Driver.take_or_exchange.Goals as goal
@@ -44,3 +45,6 @@ returns-in-Ok-false-clause-does c =
     let done : c.in-Ok-false.field-0 ≡ false = search rules in
     let same = c.in-Ok-false.ensures.same done in
     next_as c.args.self.now.engine c.take_held.new.self.engine c.exchange.new.self.engine c.args.self.now.reading c.take_held.new.self.reading c.exchange.new.self.reading c.exchange.result same.0 same.1 c.exchange.ensures.does
+
+pub returns-in-Ok-false-clause-none : goal.returns-in-Ok-false-clause-none
+returns-in-Ok-false-clause-none c = held_as c.take_held.new.self.reading c.exchange.new.self.reading c.exchange.ensures.same c.take_held.ensures.none

@@ -5,10 +5,10 @@ use Rattle.ax_task.specs.declared.end.End.{End}
 use Rattle.ax_task.proofs.EngineLemmas.{ready_behind}
 use Rattle.ax_task.proofs.TaskLemmas.{went_on, broke_off}
 use Rattle.ax_task.proofs.Going.{goes_as, sink_rest}
-use Rattle.ax_task.specs.Things.{Works}
+use Rattle.ax_task.specs.Things.{Works, AtWork, AtInput}
 use Rattle.ax_task.specs.Running.{State}
 use Rattle.ax_task.proofs.ReadingLemmas.{finds_same}
-use Rattle.ax_task.proofs.Stepping.{reads_next, counts_still, sink_counts}
+use Rattle.ax_task.proofs.Stepping.{reads_next, counts_still, sink_counts, stop_sink, stop_any}
 use Rattle.ax_task.proofs.driver.Driver.work_on.Goals as goal
 
 pub read_on-requires-clause-ready : goal.read_on-requires-clause-ready
@@ -76,6 +76,7 @@ returns-in-Ok-true-clause-steady g c =
       ready = ready_behind c.args.self.now.engine c.work.new.self c.requires.ready (append_known (held c.args.out.now.inner.now) c.args.out.now.room.now) (append_known (held c.work.new.out.inner.now) c.work.new.out.room.now) c.in-Ok-true.ensures.writes;
       may = c.requires.may;
       found = c.requires.found;
+      none = c.requires.none;
     }
 
 pub returns-in-Ok-false-clause-does : goal.returns-in-Ok-false-clause-does
@@ -101,3 +102,11 @@ pub returns-in-Err-clause-counts : goal.returns-in-Err-clause-counts
 returns-in-Err-clause-counts g c =
     let counts = g.K.Sink.counts in
     sink_counts Bool (counts c.args.out.now.inner.now) (counts c.work.new.out.inner.now) c.in-Err.fault c.end_of.result c.end_of.ensures c.in-Err.ensures.counts
+
+pub returns-in-Ok-false-clause-breaks : goal.returns-in-Ok-false-clause-breaks
+returns-in-Ok-false-clause-breaks g c =
+    let done : c.in-Ok-false.field-0 ≡ false = search rules in
+    stop_any c.read_on.result (AtInput (c.in-Ok-false.ensures.no_work done) (c.in-Ok-false.ensures.unwritten done))
+
+pub returns-in-Err-clause-breaks : goal.returns-in-Err-clause-breaks
+returns-in-Err-clause-breaks g c = stop_sink c.in-Err.fault c.end_of.result c.end_of.ensures (AtWork c.in-Err.ensures.breaks)

@@ -1,4 +1,4 @@
-use Rattle.std.proofs.Common.{List, ℤ, refl, subst}
+use Rattle.std.proofs.Common.{List, ℤ, inl, inr, refl, subst}
 use Rattle.std.specs.Io.KnownBytes.{Appends}
 use Rattle.ax_base.specs.Outside.{AppendsSome}
 use Rattle.ax_machine.specs.Entries.{text_of, says}
@@ -47,4 +47,19 @@ returns-clause-ran g c =
       f,
       record { event = ran.event; order = ran.order; idle = ran.idle; shards = shards_stay _ _ refl refl refl },
       subst (λ (ls : List (List ℤ)). Appends before behind (text_of (says f.key ls))) c.as_slice.ensures a,
+    ))
+
+pub returns-in_default-clause-broke : goal.returns-in_default-clause-broke
+returns-in_default-clause-broke g c = inl refl
+
+pub returns-clause-broke : goal.returns-clause-broke
+returns-clause-broke g c =
+    let ran = c.in-Ok.ensures in
+    let f = c.in-Ok.effects in
+    let before = g.K.Sink.holds c.args.out.now in
+    let behind = g.K.Sink.holds c.write_lines.new.out in
+    on_err c.write_lines.result c.write_lines.ensures.part (λ a. inr (
+      f,
+      record { event = ran.event; order = ran.order; idle = ran.idle; shards = shards_stay _ _ refl refl refl },
+      subst (λ (ls : List (List ℤ)). AppendsSome before behind (text_of (says f.key ls))) c.as_slice.ensures a,
     ))

@@ -2,7 +2,7 @@ use Rattle.std.proofs.Common.{refl, ap}
 use Rattle.std.specs.Io.KnownBytes.{append_known}
 use Rattle.ax_task.proofs.Written.{at_err}
 use Rattle.ax_task.proofs.EngineLemmas.{shards_stay, writes_none, unsent_moves, unsent_none, unsent_same, ready_sent, marker_writes_some, marker_moves}
-use Rattle.ax_task.proofs.Done.{sends_through}
+use Rattle.ax_task.proofs.Done.{sends_through, cuts_through}
 use Rattle.ax_task.proofs.Lesser.{marker_less, less_as}
 use Rattle.ax_task.specs.declared.engine.Engine.{Engine}
 use Rattle.ax_core.specs.declared.controller.Controller.{Controller}
@@ -66,3 +66,13 @@ returns-clause-sent g c = λ _.
     let behind = c.write_through.new.out in
     sends_through c.args.self.now c.write_through.new.self c.next_marker.new.self (shards_stay _ _ wrote.settings wrote.batch wrote.shards) wrote.core c.in-Some.marker took.event took.order took.idle
     (record { holds = held c.args.out.now.inner.now; gathered = c.args.out.now.room.now }) (record { holds = held behind.inner.now; gathered = behind.room.now }) wrote.wrote wrote.flushed
+
+pub returns-in_err-write_through-clause-broke : goal.returns-in_err-write_through-clause-broke
+returns-in_err-write_through-clause-broke g c =
+    let held = g.K.Sink.holds in
+    let took = c.in-Some.ensures in
+    let wrote = c.in_err-write_through.ensures in
+    let behind = c.write_through.new.out in
+    at_err c.from_residual.result
+    (cuts_through c.args.self.now c.write_through.new.self c.next_marker.new.self (shards_stay _ _ wrote.settings wrote.batch wrote.shards) wrote.core c.in-Some.marker took.event took.order took.idle
+    (record { holds = held c.args.out.now.inner.now; gathered = c.args.out.now.room.now }) (record { holds = held behind.inner.now; gathered = behind.room.now }) wrote.part)

@@ -3,7 +3,8 @@ use Rattle.ax_time.proofs.KeptLemmas.{if_ok}
 use Rattle.ax_core.specs.May.{has_mail}
 use Rattle.std.specs.Io.KnownBytes.{append_known}
 use Rattle.ax_task.proofs.EngineLemmas.{some_none, writes_none, quiet_if, true_false}
-use Rattle.ax_task.proofs.Done.{works_fire, works_mail, works_marker, no_work}
+use Rattle.ax_task.proofs.Done.{works_fire, works_mail, works_marker, no_work, fire_breaks, mail_breaks, marker_breaks}
+use Rattle.ax_task.proofs.Written.{at_err, on_err}
 use Rattle.ax_task.proofs.engine.Engine.work.Goals as goal
 
 pub returns-in_default-clause-part : goal.returns-in_default-clause-part
@@ -31,3 +32,17 @@ returns-clause-works g c = works_marker c.args.self.now c.send_marker.new.self _
 
 pub returns-clause-no_work : goal.returns-clause-no_work
 returns-clause-no_work g c = no_work c.args.self.now c.send_marker.new.self.core (sym c.may_fire.ensures.value ∙ c.if-may_fire.false) (sym c.mail_waits.ensures.value ∙ c.if-mail_waits.false) c.send_marker.result c.send_marker.ensures.core c.send_marker.ensures.none
+
+pub returns-in_default-clause-breaks : goal.returns-in_default-clause-breaks
+returns-in_default-clause-breaks g c = fire_breaks c.args.self.now c.fire.new.self _ (sym c.may_fire.ensures.value ∙ c.if-may_fire.true)
+
+pub returns-in_err-run_mail-clause-breaks : goal.returns-in_err-run_mail-clause-breaks
+returns-in_err-run_mail-clause-breaks g c =
+    let held = g.K.Sink.holds in
+    at_err c.from_residual.result
+    (mail_breaks c.args.out.now c.run_mail.new.out (λ k. record { holds = held k.inner.now; gathered = k.room.now }) c.args.self.now c.run_mail.new.self (sym c.may_fire.ensures.value ∙ c.if-may_fire.false) (sym c.mail_waits.ensures.value ∙ c.if-mail_waits.true)
+    c.in_err-run_mail.ensures.broke)
+
+pub returns-clause-breaks : goal.returns-clause-breaks
+returns-clause-breaks g c = on_err c.send_marker.result c.send_marker.ensures.broke
+    (λ x. marker_breaks c.args.self.now c.send_marker.new.self _ _ (sym c.may_fire.ensures.value ∙ c.if-may_fire.false) (sym c.mail_waits.ensures.value ∙ c.if-mail_waits.false) x)

@@ -1,7 +1,7 @@
 use Rattle.std.proofs.Common.{Some, refl}
 use Rattle.ax_task.specs.declared.end.End.TheVariants as end
 use Rattle.ax_task.specs.declared.reading.Reading.{Reading}
-use Rattle.ax_task.proofs.ReadingLemmas.{reads_event, reads_end, reads_fault, reads_failed, reads_short, finds_first, finds_none}
+use Rattle.ax_task.proofs.ReadingLemmas.{reads_event, reads_end, reads_fault, reads_failed, reads_short, finds_first, finds_none, held_unfound, none_held}
 use Rattle.ax_task.proofs.reading.Reading.read.Goals as goal
 
 pub returns-in-Ok-Some-clause-reads : goal.returns-in-Ok-Some-clause-reads
@@ -73,3 +73,15 @@ returns-in-Err-Read-clause-finds g c =
     let left = g.S.Source.left in
     let faults = g.S.Source.faults in
     finds_first c.args.self.now.found (Some end.Read) (left c.args.input.now) (left c.next.new.input) (faults c.args.input.now) (faults c.next.new.input) c.requires.found tt (rw c.in-Err-Read.field-0-is at c.in-Err-Read.ensures.count)
+
+pub returns-in-Ok-Some-clause-none : goal.returns-in-Ok-Some-clause-none
+returns-in-Ok-Some-clause-none g c = held_unfound (record { events = c.next.new.self; next = Some c.in-Ok-Some.event; found = c.args.self.now.found }) c.requires.found
+
+pub returns-in-Ok-None-clause-none : goal.returns-in-Ok-None-clause-none
+returns-in-Ok-None-clause-none g c = none_held (record { events = c.next.new.self; next = c.args.self.now.next; found = Some end.Ok }) c.requires.next
+
+pub returns-in-Err-Fault-clause-none : goal.returns-in-Err-Fault-clause-none
+returns-in-Err-Fault-clause-none g c = none_held (record { events = c.next.new.self; next = c.args.self.now.next; found = Some (end.Input c.in-Err-Fault.line c.in-Err-Fault.kind) }) c.requires.next
+
+pub returns-in-Err-Read-clause-none : goal.returns-in-Err-Read-clause-none
+returns-in-Err-Read-clause-none g c = none_held (record { events = c.next.new.self; next = c.args.self.now.next; found = Some end.Read }) c.requires.next
