@@ -138,13 +138,13 @@ stop_any (did.End end.Read) x = tt
 stop_any (did.End end.Write) x = x
 stop_any (did.End end.NoMemory) x = x
 
-pub stop_none : {P : Type 0} (e : End) → is_stopped e ≡ false → ByStop P e
-stop_none end.Ok h = tt
-stop_none (end.Input line kind) h = tt
-stop_none (end.Program line kind) h = tt
-stop_none end.Read h = tt
-stop_none end.Write h = absurd (cc h)
-stop_none end.NoMemory h = absurd (cc h)
+pub stop_none : (P : Type 0) (e : End) → is_stopped e ≡ false → ByStop P e
+stop_none P end.Ok h = tt
+stop_none P (end.Input line kind) h = tt
+stop_none P (end.Program line kind) h = tt
+stop_none P end.Read h = tt
+stop_none P end.Write h = absurd (cc h)
+stop_none P end.NoMemory h = absurd (cc h)
 
 pub end_was : {P : Type 0} (e : End) → is_stopped e ≡ false → ByEnd P e → P
 end_was end.Ok h x = x

@@ -38,7 +38,7 @@ pub returns-in-Err-clause-rest : goal.returns-in-Err-clause-rest
 returns-in-Err-clause-rest g c = λ a found r. sink_rest a found c.in-Err.fault c.end_of.result c.end_of.ensures
 
 pub returns-in-Ok-clause-breaks : goal.returns-in-Ok-clause-breaks
-returns-in-Ok-clause-breaks g c = λ t old e r lines left reads x y. stop_none c.args.end (sym c.is_stopped.ensures ∙ c.if-is_stopped.false)
+returns-in-Ok-clause-breaks g c = λ t old e r lines left reads x y. stop_none _ c.args.end (sym c.is_stopped.ensures ∙ c.if-is_stopped.false)
 
 pub returns-in-Err-clause-breaks : goal.returns-in-Err-clause-breaks
 returns-in-Err-clause-breaks g c = λ t old e r lines left reads x y.
@@ -52,7 +52,7 @@ returns-in-Err-clause-breaks g c = λ t old e r lines left reads x y.
     refl refl c.flush.ensures.holds (end_was c.args.end (sym c.is_stopped.ensures ∙ c.if-is_stopped.false) x)))
 
 pub returns-in-Ok-clause-still : goal.returns-in-Ok-clause-still
-returns-in-Ok-clause-still g c = λ h. absurd (both_ways (is_stopped c.args.end) h (sym c.is_stopped.ensures ∙ c.if-is_stopped.false))
+returns-in-Ok-clause-still g c = λ h. absurd (both_ways (is_stopped c.args.end) (sym c.is_stopped.ensures ∙ c.if-is_stopped.false) h)
 
 pub returns-in-Err-clause-still : goal.returns-in-Err-clause-still
-returns-in-Err-clause-still g c = λ h. absurd (both_ways (is_stopped c.args.end) h (sym c.is_stopped.ensures ∙ c.if-is_stopped.false))
+returns-in-Err-clause-still g c = λ h. absurd (both_ways (is_stopped c.args.end) (sym c.is_stopped.ensures ∙ c.if-is_stopped.false) h)

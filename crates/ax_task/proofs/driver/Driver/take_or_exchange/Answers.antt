@@ -1,10 +1,16 @@
-use Rattle.std.proofs.Common.{◌≡◌, true, false, rules}
+use Rattle.std.proofs.Common.{◌≡◌, true, false, rules, sym, subst}
 use Rattle.ax_task.proofs.TaskLemmas.{took_on, same_underway, short_here}
 use Rattle.ax_input.specs.Shown.{shown_event}
 use Rattle.ax_task.proofs.ReadingLemmas.{held_as}
 use Rattle.ax_task.proofs.Stepping.{next_as}
 use Rattle.ax_task.proofs.Going.{took_due, took_ready, goes_as}
+use Rattle.ax_task.specs.Engines.{IsReady}
 use Rattle.ax_task.proofs.driver.Driver.take_or_exchange.Goals as goal
+
+pub exchange-requires-clause-ready : goal.exchange-requires-clause-ready
+exchange-requires-clause-ready c =
+    let done : c.in-Ok-false.field-0 ≡ false = search rules in
+    subst IsReady (sym (c.in-Ok-false.ensures.same done).0) c.requires.ready
 
 pub returns-in-Ok-true-clause-steps : goal.returns-in-Ok-true-clause-steps
 returns-in-Ok-true-clause-steps c = λ now s p from x.
@@ -48,3 +54,8 @@ returns-in-Ok-false-clause-does c =
 
 pub returns-in-Ok-false-clause-none : goal.returns-in-Ok-false-clause-none
 returns-in-Ok-false-clause-none c = held_as c.take_held.new.self.reading c.exchange.new.self.reading c.exchange.ensures.same c.take_held.ensures.none
+
+pub returns-in-Ok-true-clause-does : goal.returns-in-Ok-true-clause-does
+returns-in-Ok-true-clause-does c =
+    let done : c.in-Ok-true.field-0 ≡ true = search rules in
+    c.in-Ok-true.ensures.took done

@@ -4,7 +4,6 @@ use Rattle.ax_lang.specs.Shown.{shown_program}
 use Rattle.ax_task.specs.Engines.{Stands}
 use Rattle.ax_task.specs.Tasks.{MayRead, IsFound}
 use Rattle.ax_task.specs.declared.end.End.{End}
-use Rattle.ax_task.proofs.ReadingLemmas.{none_held}
 use Rattle.ax_task.proofs.Running.{starts_running}
 use Rattle.ax_task.proofs.task.Task.new.Goals as goal
 
@@ -23,7 +22,7 @@ returns-clause-steady c =
       ready = record { settings = c.args.c.now.settings; program = c.args.core.program; read = []; written = []; stands = c.in_ok-engine.ensures.stands };
       may = subst (λ (o : Option End). MayRead c.args.lines o) found c.requires.sound;
       found = subst IsFound found tt;
-      none = none_held _ c.new-reading.ensures.next;
+      none = λ some. c.new-reading.ensures.next;
     }
 
 pub returns-clause-fresh : goal.returns-clause-fresh
