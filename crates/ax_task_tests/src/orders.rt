@@ -1,7 +1,7 @@
 //! In whatever order batches come back, each key's lines and the places of markers are the same.
 use crate::by_key::by_key;
 use crate::inputs::fed;
-use crate::ways::written_by;
+use crate::ways::{bytes_by, written_by};
 use std::alloc::AllocGlobal;
 use std::process::Abort;
 use std::test::Fail;
@@ -37,6 +37,14 @@ const WAYS: &str = "\
 const MANY: &str = "\
 input 0;on row;timer 0;end;on timer;timer time + 1;end;%%;r a 1;w 9223372036854775807;b 1;|w 9223372036854775807;s 1 9223372036854775807;t a 65536;e 1 1;";
 
+// A line of this table has a way, an input and the very bytes that it writes. The batch for the shard of b is sent before that for the
+// shard of a, and comes back first unless the list of numbers says otherwise.
+const EXACT: &str = "\
+6000 1 8 128|input 1;state c value;on row;x = get c or 0;put c x + v1;emit x + v1;end;%%;r a 1 5;r b 2 1;|o b 1;o a 5;
+6000 1 8 128 1|input 1;state c value;on row;x = get c or 0;put c x + v1;emit x + v1;end;%%;r a 1 5;r b 2 1;|o a 5;o b 1;
+6000 1 8 128 0 7|input 1;state c value;on row;x = get c or 0;put c x + v1;emit x + v1;end;%%;r a 1 5;r b 2 1;|o b 1;o a 5;
+6000 1 8 128 7|input 1;state c value;on row;x = get c or 0;put c x + v1;emit x + v1;end;%%;r a 1 5;r b 2 1;|o a 5;o b 1;";
+
 // A case under each of some ways.
 fn expect_in_ways(rt: &(impl Abort + AllocGlobal), case: &str, ways: &str) -> Result<(), Fail> {
     let alloc = rt.alloc();
@@ -47,6 +55,25 @@ fn expect_in_ways(rt: &(impl Abort + AllocGlobal), case: &str, ways: &str) -> Re
     for way in ways.lines() {
         let written = written_by(rt, way, input.as_slice())?;
         assert_eq!(rt; written.as_str(), sorted.as_str(), "under {way}");
+    }
+    Ok(())
+}
+
+fn expect_bytes(rt: &(impl Abort + AllocGlobal), case: &str) -> Result<(), Fail> {
+    let alloc = rt.alloc();
+    let mut parts = case.split('|');
+    let way = parts.next().unwrap_or("");
+    let input = fed(alloc, parts.next().unwrap_or(""))?;
+    let out = fed(alloc, parts.next().unwrap_or(""))?;
+    let written = bytes_by(rt, way, input.as_slice())?;
+    assert_eq!(rt; written.as_slice(), out.as_slice(), "under {way}");
+    Ok(())
+}
+
+#[test]
+fn numbers_choose_the_batch(rt: HostRuntime) -> Result<(), Fail> {
+    for case in EXACT.lines() {
+        expect_bytes(&rt, case)?;
     }
     Ok(())
 }
