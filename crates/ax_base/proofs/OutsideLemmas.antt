@@ -3,7 +3,7 @@ use Rattle.std.proofs.Math.Seq.{take-add}
 use Rattle.std.proofs.Common.{◌≡◌, ℕ, ◌+◌, ◌<◌, ◌^◌, List, [], ◌++◌, take, drop, Option, Some, None, sym, ◌∙◌, ap, append_assoc, arith}
 use Rattle.std.proofs.lemmas.List.{append-nil}
 use Rattle.std.specs.Io.KnownBytes.{Appends, Keeps}
-use Rattle.ax_base.specs.Outside.{Told, Rose, RoseByOne}
+use Rattle.ax_base.specs.Outside.{Told, RoseByOne}
 
 pub Appends-none : (a : Option (List ℕ)) → Appends a a []
 Appends-none None = tt
@@ -37,7 +37,3 @@ pub Told-map : {P Q : List ℕ → List ℕ → Type 0} (l0 l1 : Option (List �
 Told-map None l1 p f = tt
 Told-map (Some a) None p f = absurd p
 Told-map (Some a) (Some b) p f = f a b p
-
--- a count of 64 bits that rose by one rose
-pub Rose-by_one : (before now : ℕ) → now < 2 ^ 64 → RoseByOne before now → Rose before now
-Rose-by_one before now small by ne = grind arith

@@ -5,10 +5,6 @@ use Rattle.ax_base.specs.declared.outside.Failed.{Failed}
 use Rattle.ax_base.specs.declared.outside.SinkFault.{SinkFault}
 use Rattle.ax_base.specs.declared.outside.SinkFault.TheVariants as fault
 
--- a count is greater now, or stands at the end of its type
-abbrev pub Rose : ℕ → ℕ → Type 0
-Rose before now = (now ≢ 2 ^ 64 - 1) → before < now
-
 -- a count is greater by one, or stands at the end of its type
 abbrev pub RoseByOne : ℕ → ℕ → Type 0
 RoseByOne before now = (before ≢ 2 ^ 64 - 1 → now ≡ before + 1) × (before ≡ 2 ^ 64 - 1 → now ≡ before)
