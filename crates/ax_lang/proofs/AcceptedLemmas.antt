@@ -10,7 +10,7 @@ use Rattle.ax_text.specs.declared.vocabulary.Kind.{Kind}
 use Rattle.ax_text.specs.Names.{Word, is_name, are_distinct}
 use Rattle.ax_text.specs.Programs.{Program, kinds_of, text_or_stop, width, width_some}
 use Rattle.ax_text.specs.Prints.{is_accepted}
-use Rattle.ax_text.specs.Rows.{Row, text_of, all_ok, follow}
+use Rattle.ax_text.specs.Rows.{HandlerLine, text_of, all_ok, follow}
 use Rattle.ax_text.proofs.RowsAccepted.{accepted}
 use Rattle.ax_text.proofs.RowWidths.{counted_width}
 use Rattle.ax_text.specs.Valid.{IsValid, text_fits, timer_fits}
@@ -22,7 +22,7 @@ use Rattle.ax_rules.specs.declared.section.SectionEnd.{SectionEnd}
 use Rattle.ax_rules.specs.declared.tables.Tables.{Tables}
 use Rattle.ax_rules.specs.Lines.{tables_of}
 use Rattle.ax_rules.specs.Sections.{shape_in, fault_at, with_line, shapes_from, or_fault, is_whole, ended, read_from, reading_of}
-use Rattle.ax_lang.specs.Rows.{HandlerRows, rows_of}
+use Rattle.ax_lang.specs.Rows.{HandlerLines, rows_of}
 use Rattle.ax_lang.specs.Blocks.{begun, counted}
 use Rattle.ax_lang.specs.Clean.{Clean}
 use Rattle.ax_lang.specs.Laws.{AreApart}
@@ -39,7 +39,7 @@ few_fields None h = omega arith
 few_fields (Some n) h = h
 
 -- the program that sound tables and rows make
-program_in_valid : (t : Tables) (rows : HandlerRows) → Sound t rows → IsValid (program_in t rows)
+program_in_valid : (t : Tables) (rows : HandlerLines) → Sound t rows → IsValid (program_in t rows)
 unfolding program_in
 program_in_valid t rows h =
     let same = sym (kinds_same t.states) in
@@ -105,12 +105,12 @@ clean_valid ls c w = program_in_valid (tables_of ls) (rows_of ls) (sound_lines l
 pub accepted_valid : (lines : List Line) (end : SectionEnd) (p : Program) → program_of lines end ≡ Accepted p → IsValid p
 accepted_valid = program_holds IsValid clean_valid
 
-timer_arms : (b : Bool) (rows : List Row) → all_ok rows [] ≡ true → is_accepted (text_or_stop (timer_text b rows)) ≡ true
+timer_arms : (b : Bool) (rows : List HandlerLine) → all_ok rows [] ≡ true → is_accepted (text_or_stop (timer_text b rows)) ≡ true
 unfolding is_accepted
 timer_arms true rows h = accepted rows h
 timer_arms false rows h = refl
 
-timer_wide : (b : Bool) (rows : List Row) → follow rows begun ≡ true → width_some (timer_text b rows) ≤ counted rows
+timer_wide : (b : Bool) (rows : List HandlerLine) → follow rows begun ≡ true → width_some (timer_text b rows) ≤ counted rows
 timer_wide true rows h = (let e : counted rows ≡ width (text_of rows) = counted_width rows h in omega arith)
 timer_wide false rows h = omega arith
 

@@ -8,7 +8,7 @@ use Rattle.std.proofs.lemmas.List.Folds.{list_all-append}
 use Rattle.ax_text.specs.Names.{Word, same_word, is_value_word, is_name, mem}
 use Rattle.ax_text.specs.Exprs.{Expr}
 use Rattle.ax_text.specs.Prints.{names_in, names_in_all, asking_print}
-use Rattle.ax_text.specs.Rows.{Row, ActRow, AskRow, IfRow, EachRow, BothRow, SecondRow, EndRow}
+use Rattle.ax_text.specs.Rows.{HandlerLine, ActLine, AskLine, IfLine, EachLine, BothLine, SecondLine, EndLine}
 use Rattle.ax_text.specs.Texts as text
 use Rattle.ax_syntax.specs.declared.shape.KindWord.{KindWord}
 use Rattle.ax_syntax.specs.declared.shape.KindWord.TheVariants as word
@@ -26,7 +26,7 @@ use Rattle.ax_rules.specs.Taking.{behind}
 use Rattle.ax_rules.specs.Alike.{quiet}
 use Rattle.ax_rules.specs.Handlers.{MakesRow, row_after, timer_after, Make}
 use Rattle.ax_rules.proofs.HandlerLemmas.{Passes, passes_all, rows_hold}
-use Rattle.ax_lang.specs.Rows.{place_in, tree_in, put_by, row_of, HandlerRows, with_row, rows_of}
+use Rattle.ax_lang.specs.Rows.{place_in, tree_in, put_by, row_of, HandlerLines, with_row, rows_of}
 use Rattle.ax_lang.specs.Clean.{WellShaped, Clean}
 use Rattle.ax_lang.specs.Blocks.{CleanLinesHold}
 use Rattle.ax_lang.proofs.ExprLemmas.{is_known, all_known, Known}
@@ -192,9 +192,9 @@ put_takes names k ws h = ap (takes k) (length-map (parts_of ws) (tree_in names))
 -- the row of a line touches what the line touches
 
 -- a handler's own `end` has no row
-end_made : (p : Print) (fs : List Frame) → MakesRow End p fs (if nat_lt 0 (length fs) then Some EndRow else None)
+end_made : (p : Print) (fs : List Frame) → MakesRow End p fs (if nat_lt 0 (length fs) then Some EndLine else None)
 end_made p [] = refl
-end_made p (f ∷ fs) = ap (λ (b : Bool). if b then Some EndRow else None) (some_open f fs) where
+end_made p (f ∷ fs) = ap (λ (b : Bool). if b then Some EndLine else None) (some_open f fs) where
   some_open : (f : Frame) (fs : List Frame) → nat_lt 0 (length (f ∷ fs)) ≡ true
   some_open f fs = grind (arith, nat_tests)
 
@@ -208,34 +208,34 @@ row_made End t w c n = end_made (print_in t End) (frames_with End (print_in t En
 row_made (Let name value) t w c n =
     let names : List Word = locals_with (Let name value) t.locals in
     let h = holds t (Let name value) names c (locals_named (Let name value) t.locals w n) (keeps (Some name) None t.locals) in
-    (ActRow (text.Let (place_in names name) (tree_in names value)), refl, record { made = refl; touches = same_four (set_one names name (with_mem name t.locals)) (expr_read names value h.named w.1 h.reads) refl refl; loud = refl })
+    (ActLine (text.Let (place_in names name) (tree_in names value)), refl, record { made = refl; touches = same_four (set_one names name (with_mem name t.locals)) (expr_read names value h.named w.1 h.reads) refl refl; loud = refl })
 row_made (Get name state missing) t w c n =
     let names : List Word = locals_with (Get name state missing) t.locals in
     let states : List Word = names_of t.states in
     let h = holds t (Get name state missing) names c (locals_named (Get name state missing) t.locals w n) (keeps (Some name) None t.locals) in
-    (AskRow (text.Get (place_in names name) (place_in states state) (tree_in names missing)), refl, record { made = refl; touches = same_four (set_one names name (with_mem name t.locals)) (expr_read names missing h.named w.1 h.reads) refl (place states state (state_there t (Get name state missing) state refl h.served)); loud = refl })
+    (AskLine (text.Get (place_in names name) (place_in states state) (tree_in names missing)), refl, record { made = refl; touches = same_four (set_one names name (with_mem name t.locals)) (expr_read names missing h.named w.1 h.reads) refl (place states state (state_there t (Get name state missing) state refl h.served)); loud = refl })
 row_made (GetAt name state at missing) t w c n =
     let names : List Word = locals_with (GetAt name state at missing) t.locals in
     let states : List Word = names_of t.states in
     let h = holds t (GetAt name state at missing) names c (locals_named (GetAt name state at missing) t.locals w n) (keeps (Some name) None t.locals) in
-    (AskRow (text.GetAt (place_in names name) (place_in states state) (tree_in names at) (tree_in names missing)), refl, record { made = refl; touches = same_four (set_one names name (with_mem name t.locals)) (two_read names at missing h.named w.1 w.2 h.reads h.more) refl (place states state (state_there t (GetAt name state at missing) state refl h.served)); loud = refl })
+    (AskLine (text.GetAt (place_in names name) (place_in states state) (tree_in names at) (tree_in names missing)), refl, record { made = refl; touches = same_four (set_one names name (with_mem name t.locals)) (two_read names at missing h.named w.1 w.2 h.reads h.more) refl (place states state (state_there t (GetAt name state at missing) state refl h.served)); loud = refl })
 row_made (Has name state at) t w c n =
     let names : List Word = locals_with (Has name state at) t.locals in
     let states : List Word = names_of t.states in
     let h = holds t (Has name state at) names c (locals_named (Has name state at) t.locals w n) (keeps (Some name) None t.locals) in
-    (AskRow (text.Has (place_in names name) (place_in states state) (tree_in names at)), refl, record { made = refl; touches = same_four (set_one names name (with_mem name t.locals)) (expr_read names at h.named w.1 h.reads) refl (place states state (state_there t (Has name state at) state refl h.served)); loud = refl })
+    (AskLine (text.Has (place_in names name) (place_in states state) (tree_in names at)), refl, record { made = refl; touches = same_four (set_one names name (with_mem name t.locals)) (expr_read names at h.named w.1 h.reads) refl (place states state (state_there t (Has name state at) state refl h.served)); loud = refl })
 row_made (Empty name state) t w c n =
     let names : List Word = locals_with (Empty name state) t.locals in
     let states : List Word = names_of t.states in
     let h = holds t (Empty name state) names c (locals_named (Empty name state) t.locals w n) (keeps (Some name) None t.locals) in
-    (AskRow (text.Empty (place_in names name) (place_in states state)), refl, record { made = refl; touches = same_four (set_one names name (with_mem name t.locals)) refl refl (place states state (state_there t (Empty name state) state refl h.served)); loud = refl })
+    (AskLine (text.Empty (place_in names name) (place_in states state)), refl, record { made = refl; touches = same_four (set_one names name (with_mem name t.locals)) refl refl (place states state (state_there t (Empty name state) state refl h.served)); loud = refl })
 row_made (Put state values) t w c n =
     let names : List Word = t.locals in
     let states : List Word = names_of t.states in
     let h = holds t (Put state values) names c n (keeps None None t.locals) in
     let k = served t (Put state values) state refl h.served in
     let es : List Expr = map (tree_in names) (parts_of values) in (
-      AskRow (put_by (kind_of t.states state) (place_in states state) es),
+      AskLine (put_by (kind_of t.states state) (place_in states state) es),
       refl,
       record {
         made = refl;
@@ -248,59 +248,59 @@ row_made (Add state value) t w c n =
     let names : List Word = t.locals in
     let states : List Word = names_of t.states in
     let h = holds t (Add state value) names c n (keeps None None t.locals) in
-    (AskRow (text.Add (place_in states state) (tree_in names value)), refl, record { made = refl; touches = same_four refl (expr_read names value h.named w h.reads) (place states state (state_there t (Add state value) state refl h.served)) refl; loud = refl })
+    (AskLine (text.Add (place_in states state) (tree_in names value)), refl, record { made = refl; touches = same_four refl (expr_read names value h.named w h.reads) (place states state (state_there t (Add state value) state refl h.served)) refl; loud = refl })
 row_made (Remove state at) t w c n =
     let names : List Word = t.locals in
     let states : List Word = names_of t.states in
     let h = holds t (Remove state at) names c n (keeps None None t.locals) in
-    (AskRow (text.Remove (place_in states state) (tree_in names at)), refl, record { made = refl; touches = same_four refl (expr_read names at h.named w h.reads) (place states state (state_there t (Remove state at) state refl h.served)) refl; loud = refl })
+    (AskLine (text.Remove (place_in states state) (tree_in names at)), refl, record { made = refl; touches = same_four refl (expr_read names at h.named w h.reads) (place states state (state_there t (Remove state at) state refl h.served)) refl; loud = refl })
 row_made (Clear state) t w c n =
     let states : List Word = names_of t.states in
     let h = holds t (Clear state) t.locals c n (keeps None None t.locals) in
-    (AskRow (text.Clear (place_in states state)), refl, record { made = refl; touches = same_four refl refl (place states state (state_there t (Clear state) state refl h.served)) refl; loud = refl })
+    (AskLine (text.Clear (place_in states state)), refl, record { made = refl; touches = same_four refl refl (place states state (state_there t (Clear state) state refl h.served)) refl; loud = refl })
 row_made (If test) t w c n =
     let names : List Word = t.locals in
     let h = holds t (If test) names c n (keeps None None t.locals) in
-    (IfRow (tree_in names test), refl, record { made = refl; touches = same_four refl (expr_read names test h.named w h.reads) refl refl; loud = refl })
-row_made Else t w c n = (SecondRow, refl, record { made = refl; touches = refl; loud = refl })
+    (IfLine (tree_in names test), refl, record { made = refl; touches = same_four refl (expr_read names test h.named w h.reads) refl refl; loud = refl })
+row_made Else t w c n = (SecondLine, refl, record { made = refl; touches = refl; loud = refl })
 row_made (Each name state) t w c n =
     let names : List Word = locals_with (Each name state) t.locals in
     let states : List Word = names_of t.states in
     let h = holds t (Each name state) names c (locals_named (Each name state) t.locals w n) (keeps (Some name) None t.locals) in
-    (EachRow (text.Items (place_in names name) (place_in states state)), refl, record { made = refl; touches = same_four (set_one names name (with_mem name t.locals)) refl refl (place states state (state_there t (Each name state) state refl h.served)); loud = refl })
+    (EachLine (text.Items (place_in names name) (place_in states state)), refl, record { made = refl; touches = same_four (set_one names name (with_mem name t.locals)) refl refl (place states state (state_there t (Each name state) state refl h.served)); loud = refl })
 row_made (EachPair key number state) t w c n =
     let names : List Word = locals_with (EachPair key number state) t.locals in
     let states : List Word = names_of t.states in
     let h = holds t (EachPair key number state) names c (locals_named (EachPair key number state) t.locals w n) (keeps (Some key) (Some number) t.locals) in
     let first : mem key names ≡ true = with_keeps number (with_word (Some key) t.locals) key (with_mem key t.locals) in
     let second : mem number names ≡ true = with_mem number (with_word (Some key) t.locals) in (
-      EachRow (text.Entries (place_in names key) (place_in names number) (place_in states state)),
+      EachLine (text.Entries (place_in names key) (place_in names number) (place_in states state)),
       refl,
       record { made = refl; touches = same_four (ap₂ (λ (is js : List ℕ). is ++ js) (place names key first) (place names number second)) refl refl (place states state (state_there t (EachPair key number state) state refl h.served)); loud = refl },
     )
-row_made Both t w c n = (BothRow, refl, record { made = refl; touches = refl; loud = refl })
-row_made With t w c n = (SecondRow, refl, record { made = refl; touches = refl; loud = refl })
+row_made Both t w c n = (BothLine, refl, record { made = refl; touches = refl; loud = refl })
+row_made With t w c n = (SecondLine, refl, record { made = refl; touches = refl; loud = refl })
 row_made (Emit values) t w c n =
     let names : List Word = t.locals in
     let h = holds t (Emit values) names c n (keeps None None t.locals) in
-    (ActRow (text.Emit (map (tree_in names) (parts_of values))), refl, record { made = refl; touches = same_four refl (exprs_read names values h.named w h.reads) refl refl; loud = refl })
+    (ActLine (text.Emit (map (tree_in names) (parts_of values))), refl, record { made = refl; touches = same_four refl (exprs_read names values h.named w h.reads) refl refl; loud = refl })
 row_made (Timer time) t w c n =
     let names : List Word = t.locals in
     let h = holds t (Timer time) names c n (keeps None None t.locals) in
-    (ActRow (text.Timer (tree_in names time)), refl, record { made = refl; touches = same_four refl (expr_read names time h.named w h.reads) refl refl; loud = refl })
+    (ActLine (text.Timer (tree_in names time)), refl, record { made = refl; touches = same_four refl (expr_read names time h.named w h.reads) refl refl; loud = refl })
 row_made (Untimer time) t w c n =
     let names : List Word = t.locals in
     let h = holds t (Untimer time) names c n (keeps None None t.locals) in
-    (ActRow (text.Untimer (tree_in names time)), refl, record { made = refl; touches = same_four refl (expr_read names time h.named w h.reads) refl refl; loud = refl })
+    (ActLine (text.Untimer (tree_in names time)), refl, record { made = refl; touches = same_four refl (expr_read names time h.named w h.reads) refl refl; loud = refl })
 
 -- all lines
 
-row_told : (timer : Bool) (o : Option Row) (rows : HandlerRows) → (with_row timer o rows).row ≡ row_after timer o rows.row
+row_told : (timer : Bool) (o : Option HandlerLine) (rows : HandlerLines) → (with_row timer o rows).row ≡ row_after timer o rows.row
 row_told timer None rows = refl
 row_told true (Some r) rows = refl
 row_told false (Some r) rows = refl
 
-timer_told : (timer : Bool) (o : Option Row) (rows : HandlerRows) → (with_row timer o rows).timer ≡ timer_after timer o rows.timer
+timer_told : (timer : Bool) (o : Option HandlerLine) (rows : HandlerLines) → (with_row timer o rows).timer ≡ timer_after timer o rows.timer
 timer_told timer None rows = refl
 timer_told true (Some r) rows = refl
 timer_told false (Some r) rows = refl
@@ -322,7 +322,7 @@ all_made : (ls : List Shape) → Clean ls → Make ls (rows_of ls).row (rows_of 
 unfolding tables_of
 all_made [] h = (refl, refl)
 all_made (s ∷ ls) h =
-    let o : Option Row = row_of (tables_of (s ∷ ls)) s in
+    let o : Option HandlerLine = row_of (tables_of (s ∷ ls)) s in
     (o, (rows_of ls).row, (rows_of ls).timer, h.1, made s ls h.0 h.1 h.2, row_told (has_timer (s ∷ ls)) o (rows_of ls), timer_told (has_timer (s ∷ ls)) o (rows_of ls), all_made ls h.2)
 
 -- the rows of lines without fault close each block, keep the rule of arms, and are as wide as the tables say

@@ -3,13 +3,13 @@ use Rattle.std.proofs.Common.{◌≡◌, ◌∙◌, ℕ, max, List, [], ◌∷�
 use Rattle.std.proofs.lemmas.Bool.{and_parts, both_ways}
 use Rattle.std.specs.declared.alloc.Global.{Global}
 use Rattle.ax_text.specs.Texts.{Text, Stop, Act, Ask, If, Each, Both}
-use Rattle.ax_text.specs.Rows.{Row, ActRow, AskRow, IfRow, EachRow, BothRow, SecondRow, EndRow, Level, top, below, with_text, before, levels_of, Part, Yes', No', Body, One, Two, Wide, wide, other, block_width, has_second, may_follow, follow, widened, text_of}
+use Rattle.ax_text.specs.Rows.{HandlerLine, ActLine, AskLine, IfLine, EachLine, BothLine, SecondLine, EndLine, Level, top, below, with_text, before, levels_of, Part, Yes', No', Body, One, Two, Wide, wide, other, block_width, has_second, may_follow, follow, widened, text_of}
 use Rattle.ax_lang.specs.declared.step.Step.{Step}
-use Rattle.ax_lang.specs.declared.step.Row.{Row as CodeRow}
+use Rattle.ax_lang.specs.declared.step.HandlerLine.{HandlerLine as CodeLine}
 use Rattle.ax_lang.specs.Forms.{shown_row}
 use Rattle.ax_lang.specs.Steps.{rows_some, text_if, text_at, text_some}
 use Rattle.ax_lang.specs.Names.{quiet_names, asking_names, loop_names, text_names, names_some, row_names, rows_names}
-use Rattle.ax_lang.specs.Rows.{HandlerRows, no_rows, with_row}
+use Rattle.ax_lang.specs.Rows.{HandlerLines, no_rows, with_row}
 
 -- lines and the text that they make
 
@@ -72,36 +72,36 @@ max_among : (a b c : ℕ) → max a (max b c) ≡ max (max a b) c
 max_among a b c = omega arith
 
 -- one line
-row_left : (r : Row) (bs : List Wide) (ls : List Level) → may_follow r bs ≡ true → max (row_names r) (left_names (widened r bs) ls) ≡ left_names bs (before r ls)
+row_left : (r : HandlerLine) (bs : List Wide) (ls : List Level) → may_follow r bs ≡ true → max (row_names r) (left_names (widened r bs) ls) ≡ left_names bs (before r ls)
 unfolding left_names block_names
-row_left (ActRow q) [] ls h = absurd (both_ways false refl h)
-row_left (ActRow q) (b ∷ bs) ls h = sym (more_names (quiet_names q) b bs ls (Act q (top ls).text) refl)
-row_left (AskRow a) [] ls h = absurd (both_ways false refl h)
-row_left (AskRow a) (b ∷ bs) ls h = ap (λ (n : ℕ). max (asking_names a) n) (same_part b b.first (max b.now 1) bs ls) ∙ sym (more_names (asking_names a) b bs ls (Ask a (top ls).text) refl)
-row_left (IfRow e) [] ls h = absurd (both_ways false refl h)
-row_left (IfRow e) (b ∷ bs) ls h =
+row_left (ActLine q) [] ls h = absurd (both_ways false refl h)
+row_left (ActLine q) (b ∷ bs) ls h = sym (more_names (quiet_names q) b bs ls (Act q (top ls).text) refl)
+row_left (AskLine a) [] ls h = absurd (both_ways false refl h)
+row_left (AskLine a) (b ∷ bs) ls h = ap (λ (n : ℕ). max (asking_names a) n) (same_part b b.first (max b.now 1) bs ls) ∙ sym (more_names (asking_names a) b bs ls (Ask a (top ls).text) refl)
+row_left (IfLine e) [] ls h = absurd (both_ways false refl h)
+row_left (IfLine e) (b ∷ bs) ls h =
     let n = max (text_names (top ls).text) (text_names (top ls).second) in
     zero_first (max n (left_names (b ∷ bs) (below ls))) ∙ sym (more_names n b bs (below ls) (If e (top ls).text (top ls).second (top (below ls)).text) refl)
-row_left (EachRow l) [] ls h = absurd (both_ways false refl h)
-row_left (EachRow l) (b ∷ bs) ls h =
+row_left (EachLine l) [] ls h = absurd (both_ways false refl h)
+row_left (EachLine l) (b ∷ bs) ls h =
     let n = text_names (top ls).text in
     max_among (loop_names l) n (left_names (b ∷ bs) (below ls)) ∙ sym (more_names (max (loop_names l) n) b bs (below ls) (Each l (top ls).text (top (below ls)).text) refl)
-row_left BothRow [] ls h = absurd (both_ways false refl h)
-row_left BothRow (b ∷ bs) ls h =
+row_left BothLine [] ls h = absurd (both_ways false refl h)
+row_left BothLine (b ∷ bs) ls h =
     let n = max (text_names (top ls).text) (text_names (top ls).second) in
     zero_first (max n (left_names (b ∷ bs) (below ls))) ∙ sym (more_names n b bs (below ls) (Both (top ls).text (top ls).second (top (below ls)).text) refl)
-row_left SecondRow [] ls h = absurd (both_ways false refl h)
-row_left SecondRow (b ∷ []) ls h = absurd (both_ways false refl h)
-row_left SecondRow (b ∷ c ∷ bs) ls h =
+row_left SecondLine [] ls h = absurd (both_ways false refl h)
+row_left SecondLine (b ∷ []) ls h = absurd (both_ways false refl h)
+row_left SecondLine (b ∷ c ∷ bs) ls h =
     let n = left_names (c ∷ bs) (below ls) in
     zero_first (max (block_names (other b.part) (top ls).text (top ls).second) n) ∙ ap (λ (m : ℕ). max m n) (turn_names b.part (top ls).text (top ls).second h)
-row_left EndRow [] ls h = absurd (both_ways false refl h)
-row_left EndRow (b ∷ []) ls h = absurd (both_ways false refl h)
-row_left EndRow (b ∷ c ∷ bs) ls h =
+row_left EndLine [] ls h = absurd (both_ways false refl h)
+row_left EndLine (b ∷ []) ls h = absurd (both_ways false refl h)
+row_left EndLine (b ∷ c ∷ bs) ls h =
     let n = left_names (c ∷ bs) ls in
-    zero_first (left_names (widened EndRow (b ∷ c ∷ bs)) ls) ∙ (same_part c c.first (max c.now (block_width b.part b.first b.now)) bs ls ∙ sym (ap (λ (m : ℕ). max m n) (end_names b.part) ∙ zero_first n))
+    zero_first (left_names (widened EndLine (b ∷ c ∷ bs)) ls) ∙ (same_part c c.first (max c.now (block_width b.part b.first b.now)) bs ls ∙ sym (ap (λ (m : ℕ). max m n) (end_names b.part) ∙ zero_first n))
 
-rows_left : (rs : List Row) (bs : List Wide) → follow rs bs ≡ true → rows_names rs ≡ left_names bs (levels_of rs)
+rows_left : (rs : List HandlerLine) (bs : List Wide) → follow rs bs ≡ true → rows_names rs ≡ left_names bs (levels_of rs)
 unfolding left_names
 rows_left [] [] h = refl
 rows_left [] (b ∷ []) h = refl
@@ -110,16 +110,16 @@ rows_left (r ∷ rs) bs h =
     let x = and_parts (may_follow r bs) (follow rs (widened r bs)) h in
     ap (λ (n : ℕ). max (row_names r) n) (rows_left rs (widened r bs) x.1) ∙ row_left r bs (levels_of rs) x.0
 
-text_has : (rs : List Row) → follow rs (wide Body 0 0 ∷ []) ≡ true → rows_names rs ≡ text_names (text_of rs)
+text_has : (rs : List HandlerLine) → follow rs (wide Body 0 0 ∷ []) ≡ true → rows_names rs ≡ text_names (text_of rs)
 unfolding left_names text_of
 text_has rs h = rows_left rs (wide Body 0 0 ∷ []) h
 
-timer_has : (rows : Option (Vec CodeRow Global)) → follow (rows_some rows) (wide Body 0 0 ∷ []) ≡ true → rows_names (rows_some rows) ≡ names_some (text_if rows)
+timer_has : (rows : Option (Vec CodeLine Global)) → follow (rows_some rows) (wide Body 0 0 ∷ []) ≡ true → rows_names (rows_some rows) ≡ names_some (text_if rows)
 timer_has None h = refl
 timer_has (Some rows) h = text_has (map shown_row rows.items) h
 
 -- a program has the names of its lines
-pub numbered : (n : ℕ) (rows : List CodeRow) (timer : Option (Vec CodeRow Global)) (more : List Step) (place : ℕ) (due : Option ℕ) → text_at more place ≡ text_of (map shown_row rows) → text_some more due ≡ text_if timer
+pub numbered : (n : ℕ) (rows : List CodeLine) (timer : Option (Vec CodeLine Global)) (more : List Step) (place : ℕ) (due : Option ℕ) → text_at more place ≡ text_of (map shown_row rows) → text_some more due ≡ text_if timer
     → follow (map shown_row rows) (wide Body 0 0 ∷ []) ≡ true → follow (rows_some timer) (wide Body 0 0 ∷ []) ≡ true
     → n ≡ max (rows_names (map shown_row rows)) (rows_names (rows_some timer)) → n ≡ max (text_names (text_at more place)) (names_some (text_some more due))
 numbered n rows timer more place due e f a b h =
@@ -129,29 +129,29 @@ numbered n rows timer more place due e f a b h =
 
 -- one line more
 
-abbrev pub some_names : Option Row → ℕ
+abbrev pub some_names : Option HandlerLine → ℕ
 some_names None = 0
 some_names (Some r) = row_names r
 
 -- the lines of the last handler
-abbrev pub last_rows : Bool → HandlerRows → List Row
+abbrev pub last_rows : Bool → HandlerLines → List HandlerLine
 last_rows true rows = rows.timer
 last_rows false rows = rows.row
 
-abbrev pub most_names : HandlerRows → ℕ
+abbrev pub most_names : HandlerLines → ℕ
 most_names rows = max (rows_names rows.row) (rows_names rows.timer)
 
-rows_more : (rs : List Row) (r : Row) → rows_names (rs ++ r ∷ []) ≡ max (rows_names rs) (row_names r)
+rows_more : (rs : List HandlerLine) (r : HandlerLine) → rows_names (rs ++ r ∷ []) ≡ max (rows_names rs) (row_names r)
 rows_more [] r = omega arith
 rows_more (x ∷ xs) r = let e : rows_names (xs ++ r ∷ []) ≡ max (rows_names xs) (row_names r) = rows_more xs r in omega arith
 
-pub last_more : (timer : Bool) (o : Option Row) (rows : HandlerRows) (l n : ℕ) → l ≡ rows_names (last_rows timer rows) → n ≡ max l (some_names o) → n ≡ rows_names (last_rows timer (with_row timer o rows))
+pub last_more : (timer : Bool) (o : Option HandlerLine) (rows : HandlerLines) (l n : ℕ) → l ≡ rows_names (last_rows timer rows) → n ≡ max l (some_names o) → n ≡ rows_names (last_rows timer (with_row timer o rows))
 last_more true None rows l n a b = omega arith
 last_more false None rows l n a b = omega arith
 last_more true (Some r) rows l n a b = let e : rows_names (rows.timer ++ r ∷ []) ≡ max (rows_names rows.timer) (row_names r) = rows_more rows.timer r in omega arith
 last_more false (Some r) rows l n a b = let e : rows_names (rows.row ++ r ∷ []) ≡ max (rows_names rows.row) (row_names r) = rows_more rows.row r in omega arith
 
-pub most_more : (timer : Bool) (o : Option Row) (rows : HandlerRows) (l m n : ℕ) → l ≡ rows_names (last_rows timer rows) → m ≡ most_names rows → n ≡ max l (some_names o) → max m n ≡ most_names (with_row timer o rows)
+pub most_more : (timer : Bool) (o : Option HandlerLine) (rows : HandlerLines) (l m n : ℕ) → l ≡ rows_names (last_rows timer rows) → m ≡ most_names rows → n ≡ max l (some_names o) → max m n ≡ most_names (with_row timer o rows)
 most_more true None rows l m n a b c = omega arith
 most_more false None rows l m n a b c = omega arith
 most_more true (Some r) rows l m n a b c = let e : rows_names (rows.timer ++ r ∷ []) ≡ max (rows_names rows.timer) (row_names r) = rows_more rows.timer r in omega arith
@@ -161,6 +161,6 @@ most_more false (Some r) rows l m n a b c = let e : rows_names (rows.row ++ r �
 pub none_more : (n : ℕ) → n ≡ max n 0
 none_more n = omega arith
 
-pub none_yet : (timer : Bool) (rows : HandlerRows) → rows ≡ no_rows → 0 ≡ rows_names (last_rows timer rows)
-none_yet true rows e = ap (λ (rs : HandlerRows). rows_names rs.timer) (sym e)
-none_yet false rows e = ap (λ (rs : HandlerRows). rows_names rs.row) (sym e)
+pub none_yet : (timer : Bool) (rows : HandlerLines) → rows ≡ no_rows → 0 ≡ rows_names (last_rows timer rows)
+none_yet true rows e = ap (λ (rs : HandlerLines). rows_names rs.timer) (sym e)
+none_yet false rows e = ap (λ (rs : HandlerLines). rows_names rs.row) (sym e)

@@ -8,9 +8,9 @@ use Rattle.ax_text.specs.declared.vocabulary.Atom.{Atom}
 use Rattle.ax_text.specs.declared.vocabulary.Atom.TheVariants as atom
 use Rattle.ax_text.specs.Exprs.{Expr, Leaf, Join}
 use Rattle.ax_text.specs.Texts.{Loop, Items, Entries, Let, Emit, Timer, Untimer, Get, GetAt, Has, Empty, Put, PutAt, PutAll, Add, Remove, Clear}
-use Rattle.ax_text.specs.Rows.{Row, ActRow, AskRow, IfRow, EachRow, BothRow, SecondRow, EndRow, Level, top, below, before, levels_of, text_of}
+use Rattle.ax_text.specs.Rows.{HandlerLine, ActLine, AskLine, IfLine, EachLine, BothLine, SecondLine, EndLine, Level, top, below, before, levels_of, text_of}
 use Rattle.ax_text.specs.Valid.{has_kind, atom_fits, expr_fits, exprs_fit, quiet_fits, asking_fits, loop_fits, text_fits, timer_fits}
-use Rattle.ax_lang.specs.declared.step.Row.{Row as CodeRow}
+use Rattle.ax_lang.specs.declared.step.HandlerLine.{HandlerLine as CodeLine}
 use Rattle.std.specs.declared.alloc.Global.{Global}
 use Rattle.ax_lang.specs.Forms.{shown_row}
 use Rattle.ax_lang.specs.Steps.{row_fits, rows_some, text_if}
@@ -65,38 +65,38 @@ loop_more n m ks (Entries key number state) i e =
     let p = and_parts (nat_lt key n) (nat_lt number n) y in
     and_from (nat_lt key m) (nat_lt number m) (lt_more key n m i p.0) (lt_more number n m i p.1)))
 
-row_more : (f g n m : ℕ) (ks : List Kind) (r : Row) → f ≤ g → n ≤ m → row_fits f n ks r ≡ true → row_fits g m ks r ≡ true
-row_more f g n m ks (ActRow (Let name x)) h i e =
+row_more : (f g n m : ℕ) (ks : List Kind) (r : HandlerLine) → f ≤ g → n ≤ m → row_fits f n ks r ≡ true → row_fits g m ks r ≡ true
+row_more f g n m ks (ActLine (Let name x)) h i e =
     let p = and_parts (nat_lt name n) (expr_fits f n x) e in
     and_from (nat_lt name m) (expr_fits g m x) (lt_more name n m i p.0) (expr_more f g n m x h i p.1)
-row_more f g n m ks (ActRow (Emit values)) h i e = exprs_more f g n m values h i e
-row_more f g n m ks (ActRow (Timer time)) h i e = expr_more f g n m time h i e
-row_more f g n m ks (ActRow (Untimer time)) h i e = expr_more f g n m time h i e
-row_more f g n m ks (AskRow (Get name state missing)) h i e = named_more n m name _ _ _ i e (expr_more f g n m missing h i)
-row_more f g n m ks (AskRow (GetAt name state place missing)) h i e = named_more n m name _ _ _ i e (both_more f g n m place missing h i)
-row_more f g n m ks (AskRow (Has name state place)) h i e = named_more n m name _ _ _ i e (expr_more f g n m place h i)
-row_more f g n m ks (AskRow (Empty name state)) h i e = first_more (nat_lt name n) _ (nat_lt name m) e (lt_more name n m i)
-row_more f g n m ks (AskRow (Put state number)) h i e = second_more _ _ _ e (expr_more f g n m number h i)
-row_more f g n m ks (AskRow (PutAt state place number)) h i e = second_more _ _ _ e (both_more f g n m place number h i)
-row_more f g n m ks (AskRow (PutAll state numbers)) h i e = second_more _ _ _ e (exprs_more f g n m numbers h i)
-row_more f g n m ks (AskRow (Add state number)) h i e = second_more _ _ _ e (expr_more f g n m number h i)
-row_more f g n m ks (AskRow (Remove state place)) h i e = second_more _ _ _ e (expr_more f g n m place h i)
-row_more f g n m ks (AskRow (Clear state)) h i e = e
-row_more f g n m ks (IfRow x) h i e = expr_more f g n m x h i e
-row_more f g n m ks (EachRow l) h i e = loop_more n m ks l i e
-row_more f g n m ks BothRow h i e = refl
-row_more f g n m ks SecondRow h i e = refl
-row_more f g n m ks EndRow h i e = refl
+row_more f g n m ks (ActLine (Emit values)) h i e = exprs_more f g n m values h i e
+row_more f g n m ks (ActLine (Timer time)) h i e = expr_more f g n m time h i e
+row_more f g n m ks (ActLine (Untimer time)) h i e = expr_more f g n m time h i e
+row_more f g n m ks (AskLine (Get name state missing)) h i e = named_more n m name _ _ _ i e (expr_more f g n m missing h i)
+row_more f g n m ks (AskLine (GetAt name state place missing)) h i e = named_more n m name _ _ _ i e (both_more f g n m place missing h i)
+row_more f g n m ks (AskLine (Has name state place)) h i e = named_more n m name _ _ _ i e (expr_more f g n m place h i)
+row_more f g n m ks (AskLine (Empty name state)) h i e = first_more (nat_lt name n) _ (nat_lt name m) e (lt_more name n m i)
+row_more f g n m ks (AskLine (Put state number)) h i e = second_more _ _ _ e (expr_more f g n m number h i)
+row_more f g n m ks (AskLine (PutAt state place number)) h i e = second_more _ _ _ e (both_more f g n m place number h i)
+row_more f g n m ks (AskLine (PutAll state numbers)) h i e = second_more _ _ _ e (exprs_more f g n m numbers h i)
+row_more f g n m ks (AskLine (Add state number)) h i e = second_more _ _ _ e (expr_more f g n m number h i)
+row_more f g n m ks (AskLine (Remove state place)) h i e = second_more _ _ _ e (expr_more f g n m place h i)
+row_more f g n m ks (AskLine (Clear state)) h i e = e
+row_more f g n m ks (IfLine x) h i e = expr_more f g n m x h i e
+row_more f g n m ks (EachLine l) h i e = loop_more n m ks l i e
+row_more f g n m ks BothLine h i e = refl
+row_more f g n m ks SecondLine h i e = refl
+row_more f g n m ks EndLine h i e = refl
 
 -- what fits goes on to fit where more exists
-pub rows_grow : (f g n m : ℕ) (ks : List Kind) (rs : List Row) → f ≤ g → n ≤ m → list_all (row_fits f n ks) rs ≡ true → list_all (row_fits g m ks) rs ≡ true
+pub rows_grow : (f g n m : ℕ) (ks : List Kind) (rs : List HandlerLine) → f ≤ g → n ≤ m → list_all (row_fits f n ks) rs ≡ true → list_all (row_fits g m ks) rs ≡ true
 rows_grow f g n m ks [] h i e = refl
 rows_grow f g n m ks (r ∷ rs) h i e =
     let p = and_parts (row_fits f n ks r) (list_all (row_fits f n ks) rs) e in
     and_from (row_fits g m ks r) (list_all (row_fits g m ks) rs) (row_more f g n m ks r h i p.0) (rows_grow f g n m ks rs h i p.1)
 
 -- lines of a timer fit where a row has values
-pub rows_more : (fields locals : ℕ) (ks : List Kind) (rs : List Row) → list_all (row_fits 0 locals ks) rs ≡ true → list_all (row_fits fields locals ks) rs ≡ true
+pub rows_more : (fields locals : ℕ) (ks : List Kind) (rs : List HandlerLine) → list_all (row_fits 0 locals ks) rs ≡ true → list_all (row_fits fields locals ks) rs ≡ true
 rows_more fields locals ks rs e = rows_grow 0 fields locals locals ks rs (omega arith) (omega arith) e
 
 -- the texts of the open blocks fit
@@ -115,14 +115,14 @@ below_fits : (f n : ℕ) (ks : List Kind) (ls : List Level) → LevelsFit f n ks
 below_fits f n ks [] h = tt
 below_fits f n ks (l ∷ ls) h = h.1
 
-before_fits : (f n : ℕ) (ks : List Kind) (r : Row) (ls : List Level) → row_fits f n ks r ≡ true → LevelsFit f n ks ls → LevelsFit f n ks (before r ls)
-before_fits f n ks (ActRow q) ls e h =
+before_fits : (f n : ℕ) (ks : List Kind) (r : HandlerLine) (ls : List Level) → row_fits f n ks r ≡ true → LevelsFit f n ks ls → LevelsFit f n ks (before r ls)
+before_fits f n ks (ActLine q) ls e h =
     let t = top_fits f n ks ls h in
     ((and_from (quiet_fits f n q) (text_fits f n ks (top ls).text) e t.0, t.1), below_fits f n ks ls h)
-before_fits f n ks (AskRow a) ls e h =
+before_fits f n ks (AskLine a) ls e h =
     let t = top_fits f n ks ls h in
     ((and_from (asking_fits f n ks a) (text_fits f n ks (top ls).text) e t.0, t.1), below_fits f n ks ls h)
-before_fits f n ks (IfRow x) ls e h =
+before_fits f n ks (IfLine x) ls e h =
     let t = top_fits f n ks ls h in
     let b = below_fits f n ks ls h in
     let u = top_fits f n ks (below ls) b in
@@ -130,14 +130,14 @@ before_fits f n ks (IfRow x) ls e h =
     let other = text_fits f n ks (top ls).second in
     let rest = text_fits f n ks (top (below ls)).text in
     ((and_from (expr_fits f n x && one) (other && rest) (and_from (expr_fits f n x) one e t.0) (and_from other rest t.1 u.0), u.1), below_fits f n ks (below ls) b)
-before_fits f n ks (EachRow l) ls e h =
+before_fits f n ks (EachLine l) ls e h =
     let t = top_fits f n ks ls h in
     let b = below_fits f n ks ls h in
     let u = top_fits f n ks (below ls) b in
     let body = text_fits f n ks (top ls).text in
     let rest = text_fits f n ks (top (below ls)).text in
     ((and_from (loop_fits n ks l && body) rest (and_from (loop_fits n ks l) body e t.0) u.0, u.1), below_fits f n ks (below ls) b)
-before_fits f n ks BothRow ls e h =
+before_fits f n ks BothLine ls e h =
     let t = top_fits f n ks ls h in
     let b = below_fits f n ks ls h in
     let u = top_fits f n ks (below ls) b in
@@ -145,19 +145,19 @@ before_fits f n ks BothRow ls e h =
     let two = text_fits f n ks (top ls).second in
     let rest = text_fits f n ks (top (below ls)).text in
     ((and_from (one && two) rest (and_from one two t.0 t.1) u.0, u.1), below_fits f n ks (below ls) b)
-before_fits f n ks SecondRow ls e h = ((refl, (top_fits f n ks ls h).0), below_fits f n ks ls h)
-before_fits f n ks EndRow ls e h = ((refl, refl), h)
+before_fits f n ks SecondLine ls e h = ((refl, (top_fits f n ks ls h).0), below_fits f n ks ls h)
+before_fits f n ks EndLine ls e h = ((refl, refl), h)
 
-levels_fit : (f n : ℕ) (ks : List Kind) (rs : List Row) → list_all (row_fits f n ks) rs ≡ true → LevelsFit f n ks (levels_of rs)
+levels_fit : (f n : ℕ) (ks : List Kind) (rs : List HandlerLine) → list_all (row_fits f n ks) rs ≡ true → LevelsFit f n ks (levels_of rs)
 levels_fit f n ks [] e = tt
 levels_fit f n ks (r ∷ rs) e =
     let p = and_parts (row_fits f n ks r) (list_all (row_fits f n ks) rs) e in
     before_fits f n ks r (levels_of rs) p.0 (levels_fit f n ks rs p.1)
 
-pub text_of_fits : (fields locals : ℕ) (ks : List Kind) (rs : List Row) → list_all (row_fits fields locals ks) rs ≡ true → text_fits fields locals ks (text_of rs) ≡ true
+pub text_of_fits : (fields locals : ℕ) (ks : List Kind) (rs : List HandlerLine) → list_all (row_fits fields locals ks) rs ≡ true → text_fits fields locals ks (text_of rs) ≡ true
 unfolding text_of
 text_of_fits fields locals ks rs e = (top_fits fields locals ks (levels_of rs) (levels_fit fields locals ks rs e)).0
 
-pub timer_of_fits : (locals : ℕ) (ks : List Kind) (rows : Option (Vec CodeRow Global)) → list_all (row_fits 0 locals ks) (rows_some rows) ≡ true → timer_fits locals ks (text_if rows) ≡ true
+pub timer_of_fits : (locals : ℕ) (ks : List Kind) (rows : Option (Vec CodeLine Global)) → list_all (row_fits 0 locals ks) (rows_some rows) ≡ true → timer_fits locals ks (text_if rows) ≡ true
 timer_of_fits locals ks None e = refl
 timer_of_fits locals ks (Some rows) e = text_of_fits 0 locals ks (map shown_row rows.items) e

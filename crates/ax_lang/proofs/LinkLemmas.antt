@@ -7,14 +7,14 @@ use Rattle.std.proofs.lemmas.List.Folds.{list_all-append}
 use Rattle.ax_text.specs.declared.vocabulary.Kind.{Kind}
 use Rattle.ax_text.specs.Exprs.{Expr}
 use Rattle.ax_text.specs.Texts.{Loop, Text, Stop, Act, Ask, If, Each, Both}
-use Rattle.ax_text.specs.Rows.{Row, SecondRow, EndRow, BothRow, IfRow, EachRow, Level, level, top, below, with_text, before, levels_of, text_of}
+use Rattle.ax_text.specs.Rows.{HandlerLine, SecondLine, EndLine, BothLine, IfLine, EachLine, Level, level, top, below, with_text, before, levels_of, text_of}
 use Rattle.ax_expr.specs.declared.tree.Expr.{Expr as CodeExpr}
 use Rattle.ax_expr.specs.Shown.{shown_expr}
 use Rattle.ax_lang.specs.declared.step.Loop.{Loop as CodeLoop}
 use Rattle.ax_lang.specs.declared.step.Stmt.{Stmt}
 use Rattle.ax_lang.specs.declared.step.Stmt.TheVariants as code
 use Rattle.ax_lang.specs.declared.step.Step.{Step}
-use Rattle.ax_lang.specs.declared.step.Row.{Row as CodeRow}
+use Rattle.ax_lang.specs.declared.step.HandlerLine.{HandlerLine as CodeLine}
 use Rattle.ax_lang.specs.declared.link.Starts.{Starts}
 use Rattle.ax_lang.specs.Forms.{Form, Acts, Asks, Branches, Repeats, Splits, form_of, form_top, text_with, row_in, shown_loop, shown_row}
 use Rattle.ax_lang.specs.Steps.{row_fits, steps_fit, text_at, GoesOn}
@@ -160,35 +160,35 @@ linked_plain steps steps' blocks rest blocks' s stmt h t a =
     linked_by steps steps' blocks rest blocks' s stmt a (plain_before (text_at steps) (form_of stmt) (levels_at steps blocks) (levels_at steps rest) s h (t.first steps) (t.others steps))
 
 -- the levels, where the two innermost blocks are these
-if_before : (e : Expr) (ls ms rest : List Level) (i s : Level) → top ls ≡ i → below ls ≡ ms → top ms ≡ s → below ms ≡ rest → level (If e i.text i.second s.text) s.second ∷ rest ≡ before (IfRow e) ls
+if_before : (e : Expr) (ls ms rest : List Level) (i s : Level) → top ls ≡ i → below ls ≡ ms → top ms ≡ s → below ms ≡ rest → level (If e i.text i.second s.text) s.second ∷ rest ≡ before (IfLine e) ls
 if_before e ls ms rest i s a b c d = cc (a, b, c, d)
 
-each_before : (l : Loop) (ls ms rest : List Level) (i s : Level) → top ls ≡ i → below ls ≡ ms → top ms ≡ s → below ms ≡ rest → level (Each l i.text s.text) s.second ∷ rest ≡ before (EachRow l) ls
+each_before : (l : Loop) (ls ms rest : List Level) (i s : Level) → top ls ≡ i → below ls ≡ ms → top ms ≡ s → below ms ≡ rest → level (Each l i.text s.text) s.second ∷ rest ≡ before (EachLine l) ls
 each_before l ls ms rest i s a b c d = cc (a, b, c, d)
 
-both_before : (ls ms rest : List Level) (i s : Level) → top ls ≡ i → below ls ≡ ms → top ms ≡ s → below ms ≡ rest → level (Both i.text i.second s.text) s.second ∷ rest ≡ before BothRow ls
+both_before : (ls ms rest : List Level) (i s : Level) → top ls ≡ i → below ls ≡ ms → top ms ≡ s → below ms ≡ rest → level (Both i.text i.second s.text) s.second ∷ rest ≡ before BothLine ls
 both_before ls ms rest i s a b c d = cc (a, b, c, d)
 
 pub linked_if : (steps steps' : List Step) (blocks inside rest blocks' : List Starts) (i s : Starts) (test : CodeExpr) → Taken blocks i inside → Taken inside s rest
-    → Added steps rest s (code.If test i.text i.second) steps' blocks' → Linked (IfRow (shown_expr test)) steps blocks steps' blocks'
+    → Added steps rest s (code.If test i.text i.second) steps' blocks' → Linked (IfLine (shown_expr test)) steps blocks steps' blocks'
 linked_if steps steps' blocks inside rest blocks' i s test t u a = linked_by steps steps' blocks rest blocks' s (code.If test i.text i.second) a
     (if_before (shown_expr test) (levels_at steps blocks) (levels_at steps inside) (levels_at steps rest) (level_at steps i) (level_at steps s) (t.first steps) (t.others steps) (u.first steps) (u.others steps))
 
 pub linked_each : (steps steps' : List Step) (blocks inside rest blocks' : List Starts) (i s : Starts) (turn : CodeLoop) → Taken blocks i inside → Taken inside s rest
-    → Added steps rest s (code.Each turn i.text) steps' blocks' → Linked (EachRow (shown_loop turn)) steps blocks steps' blocks'
+    → Added steps rest s (code.Each turn i.text) steps' blocks' → Linked (EachLine (shown_loop turn)) steps blocks steps' blocks'
 linked_each steps steps' blocks inside rest blocks' i s turn t u a = linked_by steps steps' blocks rest blocks' s (code.Each turn i.text) a
     (each_before (shown_loop turn) (levels_at steps blocks) (levels_at steps inside) (levels_at steps rest) (level_at steps i) (level_at steps s) (t.first steps) (t.others steps) (u.first steps) (u.others steps))
 
 pub linked_both : (steps steps' : List Step) (blocks inside rest blocks' : List Starts) (i s : Starts) → Taken blocks i inside → Taken inside s rest
-    → Added steps rest s (code.Both i.text i.second) steps' blocks' → Linked BothRow steps blocks steps' blocks'
+    → Added steps rest s (code.Both i.text i.second) steps' blocks' → Linked BothLine steps blocks steps' blocks'
 linked_both steps steps' blocks inside rest blocks' i s t u a = linked_by steps steps' blocks rest blocks' s (code.Both i.text i.second) a
     (both_before (levels_at steps blocks) (levels_at steps inside) (levels_at steps rest) (level_at steps i) (level_at steps s) (t.first steps) (t.others steps) (u.first steps) (u.others steps))
 
-second_before : (none : Text) (ls rest : List Level) (s : Level) → none ≡ Stop → top ls ≡ s → below ls ≡ rest → level none s.text ∷ rest ≡ before SecondRow ls
+second_before : (none : Text) (ls rest : List Level) (s : Level) → none ≡ Stop → top ls ≡ s → below ls ≡ rest → level none s.text ∷ rest ≡ before SecondLine ls
 second_before none ls rest s n a b = cc (n, a, b)
 
-pub linked_second : (steps : List Step) (blocks rest blocks' : List Starts) (s : Starts) → AllUpTo (length steps) blocks → Taken blocks s rest → blocks' ≡ rest ++ starts 0 s.text ∷ [] → Linked SecondRow steps blocks steps blocks'
-linked_second steps blocks rest blocks' s h t e = subst (λ (os : List Starts). Linked SecondRow steps blocks steps os) (sym e) (record {
+pub linked_second : (steps : List Step) (blocks rest blocks' : List Starts) (s : Starts) → AllUpTo (length steps) blocks → Taken blocks s rest → blocks' ≡ rest ++ starts 0 s.text ∷ [] → Linked SecondLine steps blocks steps blocks'
+linked_second steps blocks rest blocks' s h t e = subst (λ (os : List Starts). Linked SecondLine steps blocks steps os) (sym e) (record {
   levels = levels_push steps rest (starts 0 s.text) ∙ second_before (text_at steps 0) (levels_at steps blocks) (levels_at steps rest) (level_at steps s) (text_end steps) (t.first steps) (t.others steps);
   up = up_push (length steps) rest (starts 0 s.text) (t.up (length steps) h) (omega arith) (t.text (length steps) h);
   longer = omega arith;
@@ -196,8 +196,8 @@ linked_second steps blocks rest blocks' s h t e = subst (λ (os : List Starts). 
   fits = λ fields locals ks f g. f;
 })
 
-pub linked_end : (steps : List Step) (blocks blocks' : List Starts) → AllUpTo (length steps) blocks → blocks' ≡ blocks ++ starts 0 0 ∷ [] → Linked EndRow steps blocks steps blocks'
-linked_end steps blocks blocks' h e = subst (λ (os : List Starts). Linked EndRow steps blocks steps os) (sym e) (record {
+pub linked_end : (steps : List Step) (blocks blocks' : List Starts) → AllUpTo (length steps) blocks → blocks' ≡ blocks ++ starts 0 0 ∷ [] → Linked EndLine steps blocks steps blocks'
+linked_end steps blocks blocks' h e = subst (λ (os : List Starts). Linked EndLine steps blocks steps os) (sym e) (record {
   levels = levels_push steps blocks (starts 0 0) ∙ cc (text_end steps);
   up = up_push (length steps) blocks (starts 0 0) h (omega arith) (omega arith);
   longer = omega arith;
@@ -208,36 +208,36 @@ linked_end steps blocks blocks' h e = subst (λ (os : List Starts). Linked EndRo
 -- all lines of a handler
 
 -- what lines make of the levels behind them
-abbrev pub onto : List Row → List Level → List Level
+abbrev pub onto : List HandlerLine → List Level → List Level
 onto [] ls = ls
 onto (r ∷ rs) ls = before r (onto rs ls)
 
-pub onto_none : (rs : List Row) → onto rs [] ≡ levels_of rs
+pub onto_none : (rs : List HandlerLine) → onto rs [] ≡ levels_of rs
 onto_none [] = refl
 onto_none (r ∷ rs) = ap (before r) (onto_none rs)
 
-onto_last : (rs : List Row) (r : Row) (ls : List Level) → onto (rs ++ r ∷ []) ls ≡ onto rs (before r ls)
+onto_last : (rs : List HandlerLine) (r : HandlerLine) (ls : List Level) → onto (rs ++ r ∷ []) ls ≡ onto rs (before r ls)
 onto_last [] r ls = refl
 onto_last (q ∷ rs) r ls = ap (before q) (onto_last rs r ls)
 
 -- how far the lines of `all` fit that stand in the table
-abbrev pub FitsSoFar : List Row → List Row → List Step → List Step → Type 0
+abbrev pub FitsSoFar : List HandlerLine → List HandlerLine → List Step → List Step → Type 0
 FitsSoFar all left before now = (fields locals : ℕ) → (ks : List Kind) → steps_fit fields locals ks 0 before ≡ true → list_all (row_fits fields locals ks) all ≡ true
     → (steps_fit fields locals ks 0 now ≡ true) × (list_all (row_fits fields locals ks) left ≡ true)
 
-shown_last : (all left : List CodeRow) (r : CodeRow) → all ≡ left ++ r ∷ [] → map shown_row all ≡ map shown_row left ++ shown_row r ∷ []
+shown_last : (all left : List CodeLine) (r : CodeLine) → all ≡ left ++ r ∷ [] → map shown_row all ≡ map shown_row left ++ shown_row r ∷ []
 shown_last all left r e = ap (map shown_row) e ∙ map-append shown_row left (r ∷ [])
 
-pub line_onto : (all left : List CodeRow) (r : CodeRow) (steps now : List Step) (blocks blocks' : List Starts) → all ≡ left ++ r ∷ [] → Linked (shown_row r) steps blocks now blocks'
+pub line_onto : (all left : List CodeLine) (r : CodeLine) (steps now : List Step) (blocks blocks' : List Starts) → all ≡ left ++ r ∷ [] → Linked (shown_row r) steps blocks now blocks'
     → onto (map shown_row left) (levels_at now blocks') ≡ onto (map shown_row all) (levels_at steps blocks)
 line_onto all left r steps now blocks blocks' e it =
     ap (onto (map shown_row left)) it.levels
-    ∙ sym (ap (λ (rs : List Row). onto rs (levels_at steps blocks)) (shown_last all left r e) ∙ onto_last (map shown_row left) (shown_row r) (levels_at steps blocks))
+    ∙ sym (ap (λ (rs : List HandlerLine). onto rs (levels_at steps blocks)) (shown_last all left r e) ∙ onto_last (map shown_row left) (shown_row r) (levels_at steps blocks))
 
 pub line_stays : (first steps now : List Step) → length first ≤ length steps → GoesOn first steps → GoesOn steps now → GoesOn first now
 line_stays first steps now h go more = λ p low. more p (omega arith) ∙ go p low
 
-pub line_fits : (whole all left : List CodeRow) (r : CodeRow) (first steps now : List Step) (blocks blocks' : List Starts) → all ≡ left ++ r ∷ [] → Linked (shown_row r) steps blocks now blocks'
+pub line_fits : (whole all left : List CodeLine) (r : CodeLine) (first steps now : List Step) (blocks blocks' : List Starts) → all ≡ left ++ r ∷ [] → Linked (shown_row r) steps blocks now blocks'
     → FitsSoFar (map shown_row whole) (map shown_row all) first steps → FitsSoFar (map shown_row whole) (map shown_row left) first now
 line_fits whole all left r first steps now blocks blocks' e it go = λ fields locals ks a b.
     let fit = go fields locals ks a b in
@@ -248,9 +248,9 @@ line_fits whole all left r first steps now blocks blocks' e it go = λ fields lo
     (it.fits fields locals ks fit.0 (and_parts (ok (shown_row r)) true p.1).0, p.0)
 
 -- the text is what is left of the innermost block
-pub linked_text : (rows : List CodeRow) (left : List CodeRow) (steps : List Step) (blocks rest : List Starts) (s : Starts) → left ≡ []
+pub linked_text : (rows : List CodeLine) (left : List CodeLine) (steps : List Step) (blocks rest : List Starts) (s : Starts) → left ≡ []
     → onto (map shown_row left) (levels_at steps blocks) ≡ levels_of (map shown_row rows) → Taken blocks s rest → text_at steps s.text ≡ text_of (map shown_row rows)
 unfolding text_of
 linked_text rows left steps blocks rest s e h t =
-    let levels : levels_at steps blocks ≡ levels_of (map shown_row rows) = sym (ap (λ (rs : List CodeRow). onto (map shown_row rs) (levels_at steps blocks)) e) ∙ h in
+    let levels : levels_at steps blocks ≡ levels_of (map shown_row rows) = sym (ap (λ (rs : List CodeLine). onto (map shown_row rs) (levels_at steps blocks)) e) ∙ h in
     ap (λ (l : Level). l.text) (sym (t.first steps)) ∙ ap (λ (ls : List Level). (top ls).text) levels

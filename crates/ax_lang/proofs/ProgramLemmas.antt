@@ -6,7 +6,7 @@ use Rattle.std.proofs.lemmas.List.{length-map}
 use Rattle.ax_text.specs.declared.vocabulary.Kind.{Kind}
 use Rattle.ax_text.specs.Prints.{is_accepted}
 use Rattle.ax_text.specs.Programs.{kinds_of, width, width_some, program_width, text_or_stop}
-use Rattle.ax_text.specs.Rows.{Row, Body, wide, follow, all_ok, text_of}
+use Rattle.ax_text.specs.Rows.{HandlerLine, Body, wide, follow, all_ok, text_of}
 use Rattle.ax_text.specs.Texts.{Stop}
 use Rattle.ax_text.specs.Valid.{IsValid, text_fits, timer_fits}
 use Rattle.ax_text.proofs.RowsAccepted.{accepted}
@@ -14,7 +14,7 @@ use Rattle.ax_text.proofs.RowWidths.{counted_width}
 use Rattle.ax_state.specs.declared.decls.Decl.{Decl}
 use Rattle.ax_state.specs.Decls.{kinds, state, shown_states}
 use Rattle.ax_lang.specs.declared.step.Step.{Step}
-use Rattle.ax_lang.specs.declared.step.Row.{Row as CodeRow}
+use Rattle.ax_lang.specs.declared.step.HandlerLine.{HandlerLine as CodeLine}
 use Rattle.std.specs.declared.alloc.Global.{Global}
 use Rattle.ax_lang.specs.declared.program.Program.{Program}
 use Rattle.ax_lang.specs.Forms.{form_of, text_with, top_of, shown_row}
@@ -60,35 +60,35 @@ stands p i = cases (slice_get_cases p.steps.items i).1 where
 -- what both handlers are, where their lines are linked
 
 -- the text of `on row` stays where more steps come behind
-pub row_text : (rows : List CodeRow) (steps more : List Step) (place : ℕ) → text_at steps place ≡ text_of (map shown_row rows) → place ≤ length steps → GoesOn steps more → text_at more place ≡ text_of (map shown_row rows)
+pub row_text : (rows : List CodeLine) (steps more : List Step) (place : ℕ) → text_at steps place ≡ text_of (map shown_row rows) → place ≤ length steps → GoesOn steps more → text_at more place ≡ text_of (map shown_row rows)
 row_text rows steps more place e low go = go place low ∙ e
 
-pub row_valid : (fields locals : ℕ) (ks : List Kind) (rows : List CodeRow) (more : List Step) (place : ℕ) → text_at more place ≡ text_of (map shown_row rows) → list_all (row_fits fields locals ks) (map shown_row rows) ≡ true
+pub row_valid : (fields locals : ℕ) (ks : List Kind) (rows : List CodeLine) (more : List Step) (place : ℕ) → text_at more place ≡ text_of (map shown_row rows) → list_all (row_fits fields locals ks) (map shown_row rows) ≡ true
     → text_fits fields locals ks (text_at more place) ≡ true
 row_valid fields locals ks rows more place e h = ap (text_fits fields locals ks) e ∙ text_of_fits fields locals ks (map shown_row rows) h
 
-pub timer_valid : (locals : ℕ) (ks : List Kind) (rows : Option (Vec CodeRow Global)) (more : List Step) (place : Option ℕ) → text_some more place ≡ text_if rows → list_all (row_fits 0 locals ks) (rows_some rows) ≡ true
+pub timer_valid : (locals : ℕ) (ks : List Kind) (rows : Option (Vec CodeLine Global)) (more : List Step) (place : Option ℕ) → text_some more place ≡ text_if rows → list_all (row_fits 0 locals ks) (rows_some rows) ≡ true
     → timer_fits locals ks (text_some more place) ≡ true
 timer_valid locals ks rows more place e h = ap (timer_fits locals ks) e ∙ timer_of_fits locals ks rows h
 
-pub row_apart : (rows : List CodeRow) (more : List Step) (place : ℕ) → text_at more place ≡ text_of (map shown_row rows) → all_ok (map shown_row rows) [] ≡ true → is_accepted (text_at more place) ≡ true
+pub row_apart : (rows : List CodeLine) (more : List Step) (place : ℕ) → text_at more place ≡ text_of (map shown_row rows) → all_ok (map shown_row rows) [] ≡ true → is_accepted (text_at more place) ≡ true
 row_apart rows more place e h = ap is_accepted e ∙ accepted (map shown_row rows) h
 
-pub timer_apart : (rows : Option (Vec CodeRow Global)) (more : List Step) (place : Option ℕ) → text_some more place ≡ text_if rows → all_ok (rows_some rows) [] ≡ true → is_accepted (text_or_stop (text_some more place)) ≡ true
+pub timer_apart : (rows : Option (Vec CodeLine Global)) (more : List Step) (place : Option ℕ) → text_some more place ≡ text_if rows → all_ok (rows_some rows) [] ≡ true → is_accepted (text_or_stop (text_some more place)) ≡ true
 unfolding is_accepted
 timer_apart rows more place e h = ap (λ t. is_accepted (text_or_stop t)) e ∙ cases rows h where
-  cases : (rs : Option (Vec CodeRow Global)) → all_ok (rows_some rs) [] ≡ true → is_accepted (text_or_stop (text_if rs)) ≡ true
+  cases : (rs : Option (Vec CodeLine Global)) → all_ok (rows_some rs) [] ≡ true → is_accepted (text_or_stop (text_if rs)) ≡ true
   cases None k = refl
   cases (Some rs) k = accepted (map shown_row rs.items) k
 
-row_wide : (rows : List Row) → follow rows (wide Body 0 0 ∷ []) ≡ true → rows_width rows ≡ width (text_of rows)
+row_wide : (rows : List HandlerLine) → follow rows (wide Body 0 0 ∷ []) ≡ true → rows_width rows ≡ width (text_of rows)
 row_wide rows h = counted_width rows h
 
-timer_wide : (rows : Option (Vec CodeRow Global)) → follow (rows_some rows) (wide Body 0 0 ∷ []) ≡ true → rows_width (rows_some rows) ≡ width_some (text_if rows)
+timer_wide : (rows : Option (Vec CodeLine Global)) → follow (rows_some rows) (wide Body 0 0 ∷ []) ≡ true → rows_width (rows_some rows) ≡ width_some (text_if rows)
 timer_wide None h = refl
 timer_wide (Some rows) h = counted_width (map shown_row rows.items) h
 
-pub counted : (n : ℕ) (rows : List CodeRow) (timer : Option (Vec CodeRow Global)) (more : List Step) (place : ℕ) (due : Option ℕ) → text_at more place ≡ text_of (map shown_row rows) → text_some more due ≡ text_if timer
+pub counted : (n : ℕ) (rows : List CodeLine) (timer : Option (Vec CodeLine Global)) (more : List Step) (place : ℕ) (due : Option ℕ) → text_at more place ≡ text_of (map shown_row rows) → text_some more due ≡ text_if timer
     → follow (map shown_row rows) (wide Body 0 0 ∷ []) ≡ true → follow (rows_some timer) (wide Body 0 0 ∷ []) ≡ true
     → n ≡ max 1 (max (rows_width (map shown_row rows)) (rows_width (rows_some timer))) → n ≡ max 1 (max (width (text_at more place)) (width_some (text_some more due)))
 counted n rows timer more place due e f a b h =

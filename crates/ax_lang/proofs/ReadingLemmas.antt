@@ -14,30 +14,30 @@ use Rattle.ax_rules.specs.Lines.{tables_of}
 use Rattle.ax_rules.specs.Sections.{shape_in, fault_at, with_line, shapes_of, is_whole, reading_of}
 use Rattle.ax_rules.specs.Taking.{fault_some, behind_some}
 use Rattle.ax_rules.proofs.SectionLemmas.{ReadsOn, shapes_more, fault_is, behind_is, line_taken, fault_told, whole, due}
-use Rattle.ax_lang.specs.Rows.{HandlerRows, with_row, row_of, rows_of}
+use Rattle.ax_lang.specs.Rows.{HandlerLines, with_row, row_of, rows_of}
 use Rattle.ax_lang.specs.Clean.{Clean, AreClean}
 use Rattle.ax_lang.specs.Programs.{program_in, Faulty, Accepted, said_by, program_of, rows_behind, TakesLine}
 use Rattle.ax_lang.proofs.AcceptedLemmas.{clean_on}
 use Rattle.ax_lang.proofs.ShapeLemmas.{shape_well}
 
 -- what is known after i lines
-pub record Reads (ls : List Line) (end : SectionEnd) (i : ℕ) (t : Tables) (rows : HandlerRows) : Type 0 where
+pub record Reads (ls : List Line) (end : SectionEnd) (i : ℕ) (t : Tables) (rows : HandlerLines) : Type 0 where
   pub on : ReadsOn ls end i t
   pub made : rows ≡ rows_of (shapes_of (take i ls))
   pub clean : Clean (shapes_of (take i ls))
 
 -- what is said of an answer that is known
-pub by_answer : (s : Option Shape) (t t' : Tables) (rows rows' : HandlerRows) (answer known : Option FaultKind) → answer ≡ known → TakesLine s t t' rows rows' (Ok answer) → TakesLine s t t' rows rows' (Ok known)
+pub by_answer : (s : Option Shape) (t t' : Tables) (rows rows' : HandlerLines) (answer known : Option FaultKind) → answer ≡ known → TakesLine s t t' rows rows' (Ok answer) → TakesLine s t t' rows rows' (Ok known)
 by_answer s t t' rows rows' answer known e h = subst (λ (o : Option FaultKind). TakesLine s t t' rows rows' (Ok o)) e h
 
-rows_on : (before : List Shape) (s : Option Shape) (t' : Tables) (rows : HandlerRows) → t' ≡ tables_of (with_line s before) → rows ≡ rows_of before → rows_behind s t' rows ≡ rows_of (with_line s before)
+rows_on : (before : List Shape) (s : Option Shape) (t' : Tables) (rows : HandlerLines) → t' ≡ tables_of (with_line s before) → rows ≡ rows_of before → rows_behind s t' rows ≡ rows_of (with_line s before)
 rows_on before None t' rows e f = f
 rows_on before (Some s) t' rows e f =
     ap (λ (u : Tables). with_row u.timer (row_of u s) rows) e
-    ∙ ap (λ (rs : HandlerRows). with_row (tables_of (s ∷ before)).timer (row_of (tables_of (s ∷ before)) s) rs) f
+    ∙ ap (λ (rs : HandlerLines). with_row (tables_of (s ∷ before)).timer (row_of (tables_of (s ∷ before)) s) rs) f
 
 -- a line is taken
-pub taken : (ls : List Line) (i : ℕ) (l : Line) (end : SectionEnd) (t t' : Tables) (rows rows' : HandlerRows) → i < length ls → l ≡ get_or ls i l → Reads ls end i t rows
+pub taken : (ls : List Line) (i : ℕ) (l : Line) (end : SectionEnd) (t t' : Tables) (rows rows' : HandlerLines) → i < length ls → l ≡ get_or ls i l → Reads ls end i t rows
     → TakesLine (shape_in l) t t' rows rows' (Ok None) → Reads ls end (i + 1) t' rows'
 taken ls i l end t t' rows rows' h is reads told =
     let before : List Shape = shapes_of (take i ls) in
@@ -60,20 +60,20 @@ unfolding program_of
 faulty ls end line k e = ap (said_by (shapes_of ls)) (sym e)
 
 -- a line has a fault
-pub told : (ls : List Line) (i : ℕ) (l : Line) (end : SectionEnd) (t t' : Tables) (rows rows' : HandlerRows) (kind : FaultKind) → i < length ls → l ≡ get_or ls i l → Reads ls end i t rows
+pub told : (ls : List Line) (i : ℕ) (l : Line) (end : SectionEnd) (t t' : Tables) (rows rows' : HandlerLines) (kind : FaultKind) → i < length ls → l ≡ get_or ls i l → Reads ls end i t rows
     → TakesLine (shape_in l) t t' rows rows' (Ok (Some kind)) → program_of ls end ≡ Faulty l.number (kind_number kind)
 told ls i l end t t' rows rows' kind h is reads is_faulty = faulty ls end l.number kind (fault_told ls i l end t kind h is reads.on is_faulty)
 
 -- something is due at the end
-pub not_done : (ls : List Line) (i : ℕ) (end : SectionEnd) (t : Tables) (rows : HandlerRows) → length ls ≤ i → Reads ls end i t rows → (is_whole t && end.found) ≡ false → program_of ls end ≡ Faulty end.line (kind_number fault.NoEnd)
+pub not_done : (ls : List Line) (i : ℕ) (end : SectionEnd) (t : Tables) (rows : HandlerLines) → length ls ≤ i → Reads ls end i t rows → (is_whole t && end.found) ≡ false → program_of ls end ≡ Faulty end.line (kind_number fault.NoEnd)
 not_done ls i end t rows h reads d = faulty ls end end.line fault.NoEnd (due ls i end t h reads.on d)
 
 -- nothing is
-pub done : (ls : List Line) (i : ℕ) (end : SectionEnd) (t : Tables) (rows : HandlerRows) → length ls ≤ i → Reads ls end i t rows → (is_whole t && end.found) ≡ true → program_of ls end ≡ Accepted (program_in t rows)
+pub done : (ls : List Line) (i : ℕ) (end : SectionEnd) (t : Tables) (rows : HandlerLines) → length ls ≤ i → Reads ls end i t rows → (is_whole t && end.found) ≡ true → program_of ls end ≡ Accepted (program_in t rows)
 unfolding program_of
 done ls i end t rows h reads d =
     ap (said_by (shapes_of ls)) (sym (whole ls i end t h reads.on d))
-    ∙ ap (λ (rs : HandlerRows). Accepted (program_in t rs)) (sym (reads.made ∙ ap (λ (ks : List Line). rows_of (shapes_of ks)) (take_all i ls h)))
+    ∙ ap (λ (rs : HandlerLines). Accepted (program_in t rs)) (sym (reads.made ∙ ap (λ (ks : List Line). rows_of (shapes_of ks)) (take_all i ls h)))
 
-pub are_clean : (ls : List Line) (i : ℕ) (end : SectionEnd) (t : Tables) (rows : HandlerRows) → Reads ls end i t rows → AreClean t rows
+pub are_clean : (ls : List Line) (i : ℕ) (end : SectionEnd) (t : Tables) (rows : HandlerLines) → Reads ls end i t rows → AreClean t rows
 are_clean ls i end t rows reads = (shapes_of (take i ls), reads.on.tables, reads.made, reads.clean)

@@ -6,7 +6,7 @@ use Rattle.std.proofs.lemmas.Bool.{and_parts, and_from, leb-false, lt-ltb, true�
 use Rattle.std.proofs.lemmas.List.{length-map, map-append}
 use Rattle.std.proofs.lemmas.List.Folds.{list_all-append}
 use Rattle.ax_text.specs.Names.{is_name, are_distinct}
-use Rattle.ax_text.specs.Rows.{Row, EndRow}
+use Rattle.ax_text.specs.Rows.{HandlerLine, EndLine}
 use Rattle.ax_text.specs.Valid.{expr_fits}
 use Rattle.ax_syntax.specs.declared.shape.KindWord.{KindWord}
 use Rattle.ax_syntax.specs.Words.{Word}
@@ -25,7 +25,7 @@ use Rattle.ax_rules.specs.Faults.{is_state, is_inside, may_stand, is_too_many, i
 use Rattle.ax_rules.specs.Taking.{behind}
 use Rattle.ax_rules.proofs.FaultLemmas.{behind_line}
 use Rattle.ax_lang.specs.Steps.{row_fits}
-use Rattle.ax_lang.specs.Rows.{HandlerRows, no_rows, with_row, row_of, rows_of, place_in, tree_in}
+use Rattle.ax_lang.specs.Rows.{HandlerLines, no_rows, with_row, row_of, rows_of, place_in, tree_in}
 use Rattle.ax_lang.specs.Clean.{WellShaped, Clean}
 use Rattle.ax_lang.specs.Programs.{fields_or}
 use Rattle.ax_lang.specs.Names.{rows_names}
@@ -60,7 +60,7 @@ abbrev pub UpToSixteen : Option ℕ → Type 0
 UpToSixteen None = Unit {0}
 UpToSixteen (Some n) = n ≤ 16
 
-pub record Sound (t : Tables) (rows : HandlerRows) : Type 0 where
+pub record Sound (t : Tables) (rows : HandlerLines) : Type 0 where
   pub fields : UpToSixteen t.fields
   pub states : length t.states ≤ 64
   pub named : list_all is_name (names_of t.states) ≡ true
@@ -83,24 +83,24 @@ pub record Sound (t : Tables) (rows : HandlerRows) : Type 0 where
 
 -- a row, if there is one, goes on to fit
 
-abbrev SomeFits : (Row → Bool) → Option Row → Type 0
+abbrev SomeFits : (HandlerLine → Bool) → Option HandlerLine → Type 0
 SomeFits p None = Unit {0}
 SomeFits p (Some r) = p r ≡ true
 
-all_with : (p : Row → Bool) (rows : List Row) (r : Row) → list_all p rows ≡ true → p r ≡ true → list_all p (rows ++ r ∷ []) ≡ true
+all_with : (p : HandlerLine → Bool) (rows : List HandlerLine) (r : HandlerLine) → list_all p rows ≡ true → p r ≡ true → list_all p (rows ++ r ∷ []) ≡ true
 all_with p rows r h g = list_all-append p rows (r ∷ []) ∙ and_from (list_all p rows) (list_all p (r ∷ [])) h (and_from (p r) true g refl)
 
-row_added : (p : Row → Bool) (timer : Bool) (o : Option Row) (rows : HandlerRows) → list_all p rows.row ≡ true → (timer ≡ false → SomeFits p o) → list_all p (with_row timer o rows).row ≡ true
+row_added : (p : HandlerLine → Bool) (timer : Bool) (o : Option HandlerLine) (rows : HandlerLines) → list_all p rows.row ≡ true → (timer ≡ false → SomeFits p o) → list_all p (with_row timer o rows).row ≡ true
 row_added p timer None rows h g = h
 row_added p true (Some r) rows h g = h
 row_added p false (Some r) rows h g = all_with p rows.row r h (g refl)
 
-timer_added : (p : Row → Bool) (timer : Bool) (o : Option Row) (rows : HandlerRows) → list_all p rows.timer ≡ true → (timer ≡ true → SomeFits p o) → list_all p (with_row timer o rows).timer ≡ true
+timer_added : (p : HandlerLine → Bool) (timer : Bool) (o : Option HandlerLine) (rows : HandlerLines) → list_all p rows.timer ≡ true → (timer ≡ true → SomeFits p o) → list_all p (with_row timer o rows).timer ≡ true
 timer_added p timer None rows h g = h
 timer_added p true (Some r) rows h g = all_with p rows.timer r h (g refl)
 timer_added p false (Some r) rows h g = h
 
-no_timer : (timer : Bool) (o : Option Row) (rows : HandlerRows) → timer ≡ false → rows.timer ≡ [] → (with_row timer o rows).timer ≡ []
+no_timer : (timer : Bool) (o : Option HandlerLine) (rows : HandlerLines) → timer ≡ false → rows.timer ≡ [] → (with_row timer o rows).timer ≡ []
 no_timer timer None rows q h = h
 no_timer true (Some r) rows q h = absurd (true≢false q)
 no_timer false (Some r) rows q h = h
@@ -108,13 +108,13 @@ no_timer false (Some r) rows q h = h
 -- declarations
 
 -- `input` stands before every handler
-no_row : (t : Tables) (rows : HandlerRows) → Sound t rows → is_some t.fields ≡ false → t.row ≡ false
+no_row : (t : Tables) (rows : HandlerLines) → Sound t rows → is_some t.fields ≡ false → t.row ≡ false
 no_row t rows h f = cases t.row refl where
   cases : (b : Bool) → t.row ≡ b → b ≡ false
   cases true g = absurd (true≢false (sym (h.input g) ∙ f))
   cases false g = refl
 
-sound_input : (t : Tables) (rows : HandlerRows) (n : ℕ) → Sound t rows → n ≤ 16 → NoFault t (shape.Input n) → Sound (behind (shape.Input n) t) rows
+sound_input : (t : Tables) (rows : HandlerLines) (n : ℕ) → Sound t rows → n ≤ 16 → NoFault t (shape.Input n) → Sound (behind (shape.Input n) t) rows
 unfolding behind is_twice
 sound_input t rows n h i f =
     let e : rows ≡ no_rows = h.before (no_row t rows h f.once) in
@@ -133,11 +133,11 @@ sound_input t rows n h i f =
       input = λ q. refl;
       before = h.before;
       idle = h.idle;
-      row = ap (λ (rs : HandlerRows). list_all (row_fits n (max t.most (length t.locals)) (kinds_in t.states)) rs.row) e;
-      timer = ap (λ (rs : HandlerRows). list_all (row_fits 0 (max t.most (length t.locals)) (kinds_in t.states)) rs.timer) e;
+      row = ap (λ (rs : HandlerLines). list_all (row_fits n (max t.most (length t.locals)) (kinds_in t.states)) rs.row) e;
+      timer = ap (λ (rs : HandlerLines). list_all (row_fits 0 (max t.most (length t.locals)) (kinds_in t.states)) rs.timer) e;
     }
 
-sound_state : (t : Tables) (rows : HandlerRows) (name : Word) (kind : KindWord) → Sound t rows → is_name name ≡ true → NoFault t (shape.State name kind) → Sound (behind (shape.State name kind) t) rows
+sound_state : (t : Tables) (rows : HandlerLines) (name : Word) (kind : KindWord) → Sound t rows → is_name name ≡ true → NoFault t (shape.State name kind) → Sound (behind (shape.State name kind) t) rows
 unfolding behind is_twice may_stand
 sound_state t rows name kind h w f =
     let before : t.row ≡ false = not-true t.row (and_parts (not (is_inside t) && is_some t.fields) (not t.row) f.stands).1 in
@@ -161,12 +161,12 @@ sound_state t rows name kind h w f =
       input = h.input;
       before = h.before;
       idle = h.idle;
-      row = ap (λ (rs : HandlerRows). list_all (row_fits (fields_or t.fields) most (kinds_in ds)) rs.row) e;
-      timer = ap (λ (rs : HandlerRows). list_all (row_fits 0 most (kinds_in ds)) rs.timer) e;
+      row = ap (λ (rs : HandlerLines). list_all (row_fits (fields_or t.fields) most (kinds_in ds)) rs.row) e;
+      timer = ap (λ (rs : HandlerLines). list_all (row_fits 0 most (kinds_in ds)) rs.timer) e;
     }
 
 -- a handler begins
-sound_begun : (t : Tables) (rows : HandlerRows) (row timer : Bool) (n : ℕ) (frames : List Frame) (widest : ℕ) → Sound t rows → row ≡ true → (timer ≡ false → rows.timer ≡ []) → is_some t.fields ≡ true → 0 ≡ rows_names (last_rows timer rows)
+sound_begun : (t : Tables) (rows : HandlerLines) (row timer : Bool) (n : ℕ) (frames : List Frame) (widest : ℕ) → Sound t rows → row ≡ true → (timer ≡ false → rows.timer ≡ []) → is_some t.fields ≡ true → 0 ≡ rows_names (last_rows timer rows)
     → Sound (record { fields = t.fields; states = t.states; row = row; timer = timer; locals = []; statements = n; frames = frames; widest = widest; most = max t.most 0 }) rows
 sound_begun t rows row timer n frames widest h r i f none =
     let few : t.most ≤ 256 = h.most in
@@ -187,11 +187,11 @@ sound_begun t rows row timer n frames widest h r i f none =
       timer = rows_grow 0 0 t.most (max t.most 0) (kinds_in t.states) rows.timer (omega arith) (omega arith) h.timer;
     }
 
-sound_row : (t : Tables) (rows : HandlerRows) → Sound t rows → NoFault t shape.OnRow → Sound (behind shape.OnRow t) rows
+sound_row : (t : Tables) (rows : HandlerLines) → Sound t rows → NoFault t shape.OnRow → Sound (behind shape.OnRow t) rows
 unfolding behind may_stand is_twice
 sound_row t rows h f = sound_begun t rows true t.timer _ _ _ h refl h.idle (and_parts (not (is_inside t)) (is_some t.fields) f.stands).1 (none_yet t.timer rows (h.before f.once))
 
-sound_timer : (t : Tables) (rows : HandlerRows) → Sound t rows → NoFault t shape.OnTimer → Sound (behind shape.OnTimer t) rows
+sound_timer : (t : Tables) (rows : HandlerLines) → Sound t rows → NoFault t shape.OnTimer → Sound (behind shape.OnTimer t) rows
 unfolding behind may_stand is_twice
 sound_timer t rows h f =
     let row : t.row ≡ true = (and_parts (not (is_inside t)) t.row f.stands).1 in
@@ -200,7 +200,7 @@ sound_timer t rows h f =
 -- lines of a handler
 
 -- a line of a handler adds its names, and its row
-sound_more : (t : Tables) (rows : HandlerRows) (names : List Word) (n : ℕ) (frames : List Frame) (widest : ℕ) (o : Option Row) → Sound t rows → is_inside t ≡ true → length names ≤ 256 → length names ≡ max (length t.locals) (some_names o)
+sound_more : (t : Tables) (rows : HandlerLines) (names : List Word) (n : ℕ) (frames : List Frame) (widest : ℕ) (o : Option HandlerLine) → Sound t rows → is_inside t ≡ true → length names ≤ 256 → length names ≡ max (length t.locals) (some_names o)
     → SomeFits (row_fits (values_of t) (max t.most (length names)) (kinds_in t.states)) o
     → Sound (record { fields = t.fields; states = t.states; row = t.row; timer = t.timer; locals = names; statements = n; frames = frames; widest = widest; most = max t.most (length names) }) (with_row t.timer o rows)
 sound_more t rows names n frames widest o h inside few count fit =
@@ -229,7 +229,7 @@ sound_more t rows names n frames widest o h inside few count fit =
       timer = timer_added (row_fits 0 later ks) t.timer o rows (rows_grow 0 0 now later ks rows.timer (omega arith) more h.timer) (here true);
     }
 
-few_locals : (t : Tables) (rows : HandlerRows) → Sound t rows → length t.locals ≤ 256
+few_locals : (t : Tables) (rows : HandlerLines) → Sound t rows → length t.locals ≤ 256
 few_locals t rows h = let low : length t.locals ≤ t.most = h.locals in let few : t.most ≤ 256 = h.most in omega arith
 
 -- what a line reads is known, what it assigns is no state, and its state has the statement
@@ -251,10 +251,10 @@ reads t s f =
     let g = or_parts (some_is (is_state t) (set_of s)) (some_is (is_state t) (also_of s)) d.1 in
     record { reads = all_known t (reads_of s) b.0 e.0; more = all_known t (more_of s) b.1 e.1; set = g.0; also = g.1; served = c.1 }
 
-SoundOn : Tables → HandlerRows → Shape → Type 0
+SoundOn : Tables → HandlerLines → Shape → Type 0
 SoundOn t rows s = Sound (behind s t) (with_row (behind s t).timer (row_of (behind s t) s) rows)
 
-sound_let : (t : Tables) (rows : HandlerRows) (name : Word) (value : List Word) → Sound t rows → is_expr value ≡ true → NoFault t (shape.Let name value) → SoundOn t rows (shape.Let name value)
+sound_let : (t : Tables) (rows : HandlerLines) (name : Word) (value : List Word) → Sound t rows → is_expr value ≡ true → NoFault t (shape.Let name value) → SoundOn t rows (shape.Let name value)
 unfolding SoundOn behind row_of may_stand
 sound_let t rows name value h w f =
     let r = reads t (shape.Let name value) f in
@@ -264,7 +264,7 @@ sound_let t rows name value h w f =
     (and_from (nat_lt (place_in names name) most) (expr_fits (values_of t) most (tree_in names value)) (name_low names name most (with_mem name t.locals) (omega arith))
     (expr_known t names most value w r.reads (with_keeps name t.locals) (omega arith)))
 
-sound_get : (t : Tables) (rows : HandlerRows) (name state : Word) (missing : List Word) → Sound t rows → is_expr missing ≡ true → NoFault t (shape.Get name state missing) → SoundOn t rows (shape.Get name state missing)
+sound_get : (t : Tables) (rows : HandlerLines) (name state : Word) (missing : List Word) → Sound t rows → is_expr missing ≡ true → NoFault t (shape.Get name state missing) → SoundOn t rows (shape.Get name state missing)
 unfolding SoundOn behind row_of may_stand
 sound_get t rows name state missing h w f =
     let r = reads t (shape.Get name state missing) f in
@@ -276,7 +276,7 @@ sound_get t rows name state missing h w f =
     (and_from (nat_lt (place_in names name) most) _ (name_low names name most (with_mem name t.locals) (omega arith)) (value_fits t.states state k.0 k.1 k.2))
     (expr_known t names most missing w r.reads (with_keeps name t.locals) (omega arith)))
 
-sound_get_at : (t : Tables) (rows : HandlerRows) (name state : Word) (at missing : List Word) → Sound t rows → is_expr at ≡ true → is_expr missing ≡ true → NoFault t (shape.GetAt name state at missing)
+sound_get_at : (t : Tables) (rows : HandlerLines) (name state : Word) (at missing : List Word) → Sound t rows → is_expr at ≡ true → is_expr missing ≡ true → NoFault t (shape.GetAt name state at missing)
     → SoundOn t rows (shape.GetAt name state at missing)
 unfolding SoundOn behind row_of may_stand
 sound_get_at t rows name state at missing h v w f =
@@ -291,7 +291,7 @@ sound_get_at t rows name state at missing h v w f =
     (expr_known t names most at v r.reads (with_keeps name t.locals) (omega arith))
     (expr_known t names most missing w r.more (with_keeps name t.locals) (omega arith))))
 
-sound_has : (t : Tables) (rows : HandlerRows) (name state : Word) (at : List Word) → Sound t rows → is_expr at ≡ true → NoFault t (shape.Has name state at) → SoundOn t rows (shape.Has name state at)
+sound_has : (t : Tables) (rows : HandlerLines) (name state : Word) (at : List Word) → Sound t rows → is_expr at ≡ true → NoFault t (shape.Has name state at) → SoundOn t rows (shape.Has name state at)
 unfolding SoundOn behind row_of may_stand
 sound_has t rows name state at h w f =
     let r = reads t (shape.Has name state at) f in
@@ -303,7 +303,7 @@ sound_has t rows name state at h w f =
     (and_from (nat_lt (place_in names name) most) _ (name_low names name most (with_mem name t.locals) (omega arith)) (map_fits t.states state k.0 k.1 k.2))
     (expr_known t names most at w r.reads (with_keeps name t.locals) (omega arith)))
 
-sound_empty : (t : Tables) (rows : HandlerRows) (name state : Word) → Sound t rows → NoFault t (shape.Empty name state) → SoundOn t rows (shape.Empty name state)
+sound_empty : (t : Tables) (rows : HandlerLines) (name state : Word) → Sound t rows → NoFault t (shape.Empty name state) → SoundOn t rows (shape.Empty name state)
 unfolding SoundOn behind row_of may_stand
 sound_empty t rows name state h f =
     let r = reads t (shape.Empty name state) f in
@@ -313,7 +313,7 @@ sound_empty t rows name state h f =
     sound_more t rows names _ _ _ (row_of (behind (shape.Empty name state) t) (shape.Empty name state)) h f.stands (one_few t name (room t (shape.Empty name state) f.few) r.set) (with_length name t.locals)
     (and_from (nat_lt (place_in names name) most) _ (name_low names name most (with_mem name t.locals) (omega arith)) (map_fits t.states state k.0 k.1 k.2))
 
-sound_put : (t : Tables) (rows : HandlerRows) (state : Word) (values : List Word) → Sound t rows → is_exprs values ≡ true → NoFault t (shape.Put state values) → SoundOn t rows (shape.Put state values)
+sound_put : (t : Tables) (rows : HandlerLines) (state : Word) (values : List Word) → Sound t rows → is_exprs values ≡ true → NoFault t (shape.Put state values) → SoundOn t rows (shape.Put state values)
 unfolding SoundOn behind row_of may_stand
 sound_put t rows state values h w f =
     let r = reads t (shape.Put state values) f in
@@ -325,7 +325,7 @@ sound_put t rows state values h w f =
     (put_fits (values_of t) most t.states state k.0 (map (tree_in t.locals) (parts_of values)) k.1 (subst (λ (n : ℕ). takes k.0 n ≡ true) same k.2)
     (exprs_known t t.locals most values w r.reads (same_names t.locals) (omega arith)))
 
-sound_add : (t : Tables) (rows : HandlerRows) (state : Word) (value : List Word) → Sound t rows → is_expr value ≡ true → NoFault t (shape.Add state value) → SoundOn t rows (shape.Add state value)
+sound_add : (t : Tables) (rows : HandlerLines) (state : Word) (value : List Word) → Sound t rows → is_expr value ≡ true → NoFault t (shape.Add state value) → SoundOn t rows (shape.Add state value)
 unfolding SoundOn behind row_of may_stand
 sound_add t rows state value h w f =
     let r = reads t (shape.Add state value) f in
@@ -334,7 +334,7 @@ sound_add t rows state value h w f =
     sound_more t rows t.locals _ _ _ (row_of (behind (shape.Add state value) t) (shape.Add state value)) h f.stands (few_locals t rows h) (none_more (length t.locals))
     (and_from _ (expr_fits (values_of t) most (tree_in t.locals value)) (list_fits t.states state k.0 k.1 k.2) (expr_known t t.locals most value w r.reads (same_names t.locals) (omega arith)))
 
-sound_remove : (t : Tables) (rows : HandlerRows) (state : Word) (at : List Word) → Sound t rows → is_expr at ≡ true → NoFault t (shape.Remove state at) → SoundOn t rows (shape.Remove state at)
+sound_remove : (t : Tables) (rows : HandlerLines) (state : Word) (at : List Word) → Sound t rows → is_expr at ≡ true → NoFault t (shape.Remove state at) → SoundOn t rows (shape.Remove state at)
 unfolding SoundOn behind row_of may_stand
 sound_remove t rows state at h w f =
     let r = reads t (shape.Remove state at) f in
@@ -343,20 +343,20 @@ sound_remove t rows state at h w f =
     sound_more t rows t.locals _ _ _ (row_of (behind (shape.Remove state at) t) (shape.Remove state at)) h f.stands (few_locals t rows h) (none_more (length t.locals))
     (and_from _ (expr_fits (values_of t) most (tree_in t.locals at)) (map_fits t.states state k.0 k.1 k.2) (expr_known t t.locals most at w r.reads (same_names t.locals) (omega arith)))
 
-sound_clear : (t : Tables) (rows : HandlerRows) (state : Word) → Sound t rows → NoFault t (shape.Clear state) → SoundOn t rows (shape.Clear state)
+sound_clear : (t : Tables) (rows : HandlerLines) (state : Word) → Sound t rows → NoFault t (shape.Clear state) → SoundOn t rows (shape.Clear state)
 unfolding SoundOn behind row_of may_stand
 sound_clear t rows state h f =
     let r = reads t (shape.Clear state) f in
     let k = served t (shape.Clear state) state refl r.served in
     sound_more t rows t.locals _ _ _ (row_of (behind (shape.Clear state) t) (shape.Clear state)) h f.stands (few_locals t rows h) (none_more (length t.locals)) (and_parts _ _ (state_fits t.states state k.0 k.1)).0
 
-sound_if : (t : Tables) (rows : HandlerRows) (test : List Word) → Sound t rows → is_expr test ≡ true → NoFault t (shape.If test) → SoundOn t rows (shape.If test)
+sound_if : (t : Tables) (rows : HandlerLines) (test : List Word) → Sound t rows → is_expr test ≡ true → NoFault t (shape.If test) → SoundOn t rows (shape.If test)
 unfolding SoundOn behind row_of may_stand
 sound_if t rows test h w f =
     sound_more t rows t.locals _ _ _ (row_of (behind (shape.If test) t) (shape.If test)) h f.stands (few_locals t rows h) (none_more (length t.locals))
     (expr_known t t.locals (max t.most (length t.locals)) test w (reads t (shape.If test) f).reads (same_names t.locals) (omega arith))
 
-sound_each : (t : Tables) (rows : HandlerRows) (name state : Word) → Sound t rows → NoFault t (shape.Each name state) → SoundOn t rows (shape.Each name state)
+sound_each : (t : Tables) (rows : HandlerLines) (name state : Word) → Sound t rows → NoFault t (shape.Each name state) → SoundOn t rows (shape.Each name state)
 unfolding SoundOn behind row_of may_stand
 sound_each t rows name state h f =
     let r = reads t (shape.Each name state) f in
@@ -366,7 +366,7 @@ sound_each t rows name state h f =
     sound_more t rows names _ _ _ (row_of (behind (shape.Each name state) t) (shape.Each name state)) h f.stands (one_few t name (room t (shape.Each name state) f.few) r.set) (with_length name t.locals)
     (and_from (nat_lt (place_in names name) most) _ (name_low names name most (with_mem name t.locals) (omega arith)) (list_fits t.states state k.0 k.1 k.2))
 
-sound_each_pair : (t : Tables) (rows : HandlerRows) (key number state : Word) → Sound t rows → NoFault t (shape.EachPair key number state) → SoundOn t rows (shape.EachPair key number state)
+sound_each_pair : (t : Tables) (rows : HandlerLines) (key number state : Word) → Sound t rows → NoFault t (shape.EachPair key number state) → SoundOn t rows (shape.EachPair key number state)
 unfolding SoundOn behind row_of may_stand is_twice
 sound_each_pair t rows key number state h f =
     let r = reads t (shape.EachPair key number state) f in
@@ -385,19 +385,19 @@ sound_each_pair t rows key number state h f =
     (ap not (places_differ names key number has_key has_number f.once)))
     (map_fits t.states state k.0 k.1 k.2))
 
-sound_emit : (t : Tables) (rows : HandlerRows) (values : List Word) → Sound t rows → is_exprs values ≡ true → NoFault t (shape.Emit values) → SoundOn t rows (shape.Emit values)
+sound_emit : (t : Tables) (rows : HandlerLines) (values : List Word) → Sound t rows → is_exprs values ≡ true → NoFault t (shape.Emit values) → SoundOn t rows (shape.Emit values)
 unfolding SoundOn behind row_of may_stand
 sound_emit t rows values h w f =
     sound_more t rows t.locals _ _ _ (row_of (behind (shape.Emit values) t) (shape.Emit values)) h f.stands (few_locals t rows h) (none_more (length t.locals))
     (exprs_known t t.locals (max t.most (length t.locals)) values w (reads t (shape.Emit values) f).reads (same_names t.locals) (omega arith))
 
-sound_set : (t : Tables) (rows : HandlerRows) (time : List Word) → Sound t rows → is_expr time ≡ true → NoFault t (shape.Timer time) → SoundOn t rows (shape.Timer time)
+sound_set : (t : Tables) (rows : HandlerLines) (time : List Word) → Sound t rows → is_expr time ≡ true → NoFault t (shape.Timer time) → SoundOn t rows (shape.Timer time)
 unfolding SoundOn behind row_of may_stand
 sound_set t rows time h w f =
     sound_more t rows t.locals _ _ _ (row_of (behind (shape.Timer time) t) (shape.Timer time)) h f.stands (few_locals t rows h) (none_more (length t.locals))
     (expr_known t t.locals (max t.most (length t.locals)) time w (reads t (shape.Timer time) f).reads (same_names t.locals) (omega arith))
 
-sound_unset : (t : Tables) (rows : HandlerRows) (time : List Word) → Sound t rows → is_expr time ≡ true → NoFault t (shape.Untimer time) → SoundOn t rows (shape.Untimer time)
+sound_unset : (t : Tables) (rows : HandlerLines) (time : List Word) → Sound t rows → is_expr time ≡ true → NoFault t (shape.Untimer time) → SoundOn t rows (shape.Untimer time)
 unfolding SoundOn behind row_of may_stand
 sound_unset t rows time h w f =
     sound_more t rows t.locals _ _ _ (row_of (behind (shape.Untimer time) t) (shape.Untimer time)) h f.stands (few_locals t rows h) (none_more (length t.locals))
@@ -409,31 +409,31 @@ top_inside : (p : Part → Bool) (fs : List Frame) → top_is p fs ≡ true → 
 top_inside p [] h = absurd (false≢true h)
 top_inside p (f ∷ fs) h = lt-ltb 0 (length (f ∷ fs)) (omega arith)
 
-sound_end : (t : Tables) (rows : HandlerRows) → Sound t rows → NoFault t shape.End → SoundOn t rows shape.End
+sound_end : (t : Tables) (rows : HandlerLines) → Sound t rows → NoFault t shape.End → SoundOn t rows shape.End
 unfolding SoundOn behind row_of may_stand
 sound_end t rows h f = sound_more t rows t.locals _ _ _ (row_of (behind shape.End t) shape.End) h (and_parts (is_inside t) _ f.stands).0 (few_locals t rows h) (none (is_inside (behind shape.End t))) (ends (is_inside (behind shape.End t))) where
-  none : (b : Bool) → length t.locals ≡ max (length t.locals) (some_names (if b then Some EndRow else None))
+  none : (b : Bool) → length t.locals ≡ max (length t.locals) (some_names (if b then Some EndLine else None))
   none true = none_more (length t.locals)
   none false = none_more (length t.locals)
 
-  ends : (b : Bool) → SomeFits (row_fits (values_of t) (max t.most (length t.locals)) (kinds_in t.states)) (if b then Some EndRow else None)
+  ends : (b : Bool) → SomeFits (row_fits (values_of t) (max t.most (length t.locals)) (kinds_in t.states)) (if b then Some EndLine else None)
   ends true = refl
   ends false = tt
 
-sound_else : (t : Tables) (rows : HandlerRows) → Sound t rows → NoFault t shape.Else → SoundOn t rows shape.Else
+sound_else : (t : Tables) (rows : HandlerLines) → Sound t rows → NoFault t shape.Else → SoundOn t rows shape.Else
 unfolding SoundOn behind row_of may_stand
 sound_else t rows h f = sound_more t rows t.locals _ _ _ (row_of (behind shape.Else t) shape.Else) h (top_inside is_yes t.frames f.stands) (few_locals t rows h) (none_more (length t.locals)) refl
 
-sound_with : (t : Tables) (rows : HandlerRows) → Sound t rows → NoFault t shape.With → SoundOn t rows shape.With
+sound_with : (t : Tables) (rows : HandlerLines) → Sound t rows → NoFault t shape.With → SoundOn t rows shape.With
 unfolding SoundOn behind row_of may_stand
 sound_with t rows h f = sound_more t rows t.locals _ _ _ (row_of (behind shape.With t) shape.With) h (top_inside is_one t.frames f.stands) (few_locals t rows h) (none_more (length t.locals)) refl
 
-sound_both : (t : Tables) (rows : HandlerRows) → Sound t rows → NoFault t shape.Both → SoundOn t rows shape.Both
+sound_both : (t : Tables) (rows : HandlerLines) → Sound t rows → NoFault t shape.Both → SoundOn t rows shape.Both
 unfolding SoundOn behind row_of may_stand
 sound_both t rows h f = sound_more t rows t.locals _ _ _ (row_of (behind shape.Both t) shape.Both) h f.stands (few_locals t rows h) (none_more (length t.locals)) refl
 
 -- a line without fault
-sound_shape : (t : Tables) (rows : HandlerRows) (s : Shape) → Sound t rows → WellShaped s → NoFault t s → SoundOn t rows s
+sound_shape : (t : Tables) (rows : HandlerLines) (s : Shape) → Sound t rows → WellShaped s → NoFault t s → SoundOn t rows s
 unfolding SoundOn row_of
 sound_shape t rows (shape.Input a) h i f = sound_input t rows a h i f
 sound_shape t rows (shape.State a b) h i f = sound_state t rows a b h i f

@@ -1,6 +1,6 @@
 -- What the blocks of a handler's rows keep.
 use Rattle.std.specs.Prelude.{◌≡◌, ◌≤◌, ℕ, max, List, [], ◌∷◌, true}
-use Rattle.ax_text.specs.Rows.{Row, Wide, wide, Body, follow, all_ok, widened_by, now_of}
+use Rattle.ax_text.specs.Rows.{HandlerLine, Wide, wide, Body, follow, all_ok, widened_by, now_of}
 use Rattle.ax_syntax.specs.Shapes.{Shape}
 use Rattle.ax_rules.specs.Lines.{tables_of}
 use Rattle.ax_rules.specs.Sections.{is_whole}
@@ -12,7 +12,7 @@ abbrev pub begun : List Wide
 begun = wide Body 0 0 ∷ []
 
 -- how wide rows are, counted line by line
-abbrev pub counted : List Row → ℕ
+abbrev pub counted : List HandlerLine → ℕ
 counted rows = now_of (widened_by rows begun)
 
 -- the rows of the two handlers close each block, keep the rule of arms, and are as wide as the tables say

@@ -5,7 +5,7 @@ use Rattle.ax_syntax.specs.Shapes.{Shape, Input, State, Let, Get, GetAt, Has, Em
 use Rattle.ax_rules.specs.declared.tables.Tables.{Tables}
 use Rattle.ax_rules.specs.Lines.{tables_of}
 use Rattle.ax_rules.specs.Faults.{fault_by}
-use Rattle.ax_lang.specs.Rows.{HandlerRows, rows_of}
+use Rattle.ax_lang.specs.Rows.{HandlerLines, rows_of}
 
 -- what the words of a shape have by their form
 abbrev pub WellShaped : Shape → Type 0
@@ -33,5 +33,5 @@ Clean [] = Unit {0}
 Clean (s ∷ ls) = WellShaped s × (fault_by ls s ≡ None) × Clean ls
 
 -- tables and rows of such lines
-abbrev pub AreClean : Tables → HandlerRows → Type 0
+abbrev pub AreClean : Tables → HandlerLines → Type 0
 AreClean t rows = (ls : List Shape) × (t ≡ tables_of ls) × (rows ≡ rows_of ls) × Clean ls

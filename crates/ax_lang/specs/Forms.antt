@@ -3,15 +3,15 @@ use Rattle.std.specs.Prelude.{ℕ, max, map}
 use Rattle.ax_text.specs.Exprs.{Expr}
 use Rattle.ax_text.specs.Texts.{Quiet, Asking, Loop, Text, Act, Ask, If, Each, Both}
 use Rattle.ax_text.specs.Texts as text
-use Rattle.ax_text.specs.Rows.{Row, ActRow, AskRow, IfRow, EachRow, BothRow, SecondRow, EndRow}
+use Rattle.ax_text.specs.Rows.{HandlerLine, ActLine, AskLine, IfLine, EachLine, BothLine, SecondLine, EndLine}
 use Rattle.ax_expr.specs.Shown.{shown_expr}
 use Rattle.ax_lang.specs.declared.step.Loop.{Loop as CodeLoop}
 use Rattle.ax_lang.specs.declared.step.Loop.TheVariants as loop
 use Rattle.ax_lang.specs.declared.step.Stmt.{Stmt}
 use Rattle.ax_lang.specs.declared.step.Stmt.TheVariants as code
 use Rattle.ax_lang.specs.declared.step.Step.{Step}
-use Rattle.ax_lang.specs.declared.step.Row.{Row as CodeRow}
-use Rattle.ax_lang.specs.declared.step.Row.TheVariants as line
+use Rattle.ax_lang.specs.declared.step.HandlerLine.{HandlerLine as CodeLine}
+use Rattle.ax_lang.specs.declared.step.HandlerLine.TheVariants as line
 
 -- a statement, with the places that it names
 pub data Form : Type 0 where
@@ -65,14 +65,14 @@ abbrev pub top_of : Step → ℕ
 top_of s = max s.next (form_top (form_of s.stmt))
 
 -- the line of a statement
-abbrev pub row_in : Form → Row
-row_in (Acts q) = ActRow q
-row_in (Asks a) = AskRow a
-row_in (Branches e one other) = IfRow e
-row_in (Repeats l body) = EachRow l
-row_in (Splits one two) = BothRow
+abbrev pub row_in : Form → HandlerLine
+row_in (Acts q) = ActLine q
+row_in (Asks a) = AskLine a
+row_in (Branches e one other) = IfLine e
+row_in (Repeats l body) = EachLine l
+row_in (Splits one two) = BothLine
 
-abbrev pub shown_row : CodeRow → Row
+abbrev pub shown_row : CodeLine → HandlerLine
 shown_row (line.Statement s) = row_in (form_of s)
-shown_row line.Second = SecondRow
-shown_row line.End = EndRow
+shown_row line.Second = SecondLine
+shown_row line.End = EndLine

@@ -2,7 +2,7 @@
 use Rattle.std.specs.Prelude.{◌≡◌, ◌≤◌, ℕ, List, [], ◌∷◌, ◌++◌, length, true}
 use Rattle.std.specs.List.{list_all}
 use Rattle.ax_text.specs.declared.vocabulary.Kind.{Kind}
-use Rattle.ax_text.specs.Rows.{Row, Level, level, top, below, before}
+use Rattle.ax_text.specs.Rows.{HandlerLine, Level, level, top, below, before}
 use Rattle.ax_lang.specs.declared.step.Stmt.{Stmt}
 use Rattle.ax_lang.specs.declared.step.Step.{Step}
 use Rattle.ax_lang.specs.declared.link.Starts.{Starts}
@@ -43,7 +43,7 @@ pub record Added (steps : List Step) (blocks : List Starts) (s : Starts) (stmt :
   pub fits : (fields locals : ℕ) → (kinds : List Kind) → steps_fit fields locals kinds 0 steps ≡ true → stmt_fits fields locals kinds stmt ≡ true → steps_fit fields locals kinds 0 steps' ≡ true
 
 -- a line stands before those that are linked
-pub record Linked (r : Row) (steps : List Step) (blocks : List Starts) (steps' : List Step) (blocks' : List Starts) : Type 0 where
+pub record Linked (r : HandlerLine) (steps : List Step) (blocks : List Starts) (steps' : List Step) (blocks' : List Starts) : Type 0 where
   pub levels : levels_at steps' blocks' ≡ before r (levels_at steps blocks)
   pub up : AllUpTo (length steps') blocks'
   pub longer : length steps ≤ length steps'
@@ -51,5 +51,5 @@ pub record Linked (r : Row) (steps : List Step) (blocks : List Starts) (steps' :
   pub fits : (fields locals : ℕ) → (kinds : List Kind) → steps_fit fields locals kinds 0 steps ≡ true → row_fits fields locals kinds r ≡ true → steps_fit fields locals kinds 0 steps' ≡ true
 
 -- where the table fits and so do these lines, the table with them does
-abbrev pub FitsWith : List Row → List Step → List Step → Type 0
+abbrev pub FitsWith : List HandlerLine → List Step → List Step → Type 0
 FitsWith rows steps steps' = (fields locals : ℕ) → (kinds : List Kind) → steps_fit fields locals kinds 0 steps ≡ true → list_all (row_fits fields locals kinds) rows ≡ true → steps_fit fields locals kinds 0 steps' ≡ true

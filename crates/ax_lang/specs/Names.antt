@@ -2,7 +2,7 @@
 use Rattle.std.specs.Prelude.{ℕ, suc, max, List, [], ◌∷◌, Option, Some, None}
 use Rattle.ax_text.specs.Texts.{Quiet, Let, Asking, Get, GetAt, Has, Empty, Loop, Items, Entries, Text, Stop, Act, Ask, If, Each, Both}
 use Rattle.ax_text.specs.Programs.{Program}
-use Rattle.ax_text.specs.Rows.{Row, ActRow, AskRow, EachRow}
+use Rattle.ax_text.specs.Rows.{HandlerLine, ActLine, AskLine, EachLine}
 
 abbrev pub quiet_names : Quiet → ℕ
 quiet_names (Let name value) = suc name
@@ -37,12 +37,12 @@ program_names p = max (text_names p.row) (names_some p.timer)
 
 -- the same of the lines of a handler
 
-abbrev pub row_names : Row → ℕ
-row_names (ActRow q) = quiet_names q
-row_names (AskRow a) = asking_names a
-row_names (EachRow l) = loop_names l
+abbrev pub row_names : HandlerLine → ℕ
+row_names (ActLine q) = quiet_names q
+row_names (AskLine a) = asking_names a
+row_names (EachLine l) = loop_names l
 row_names _ = 0
 
-abbrev pub rows_names : List Row → ℕ
+abbrev pub rows_names : List HandlerLine → ℕ
 rows_names [] = 0
 rows_names (r ∷ rs) = max (row_names r) (rows_names rs)

@@ -10,7 +10,7 @@ use Rattle.ax_text.specs.declared.vocabulary.Keyword.TheVariants as k
 use Rattle.ax_text.specs.Exprs.{Expr, Leaf}
 use Rattle.ax_text.specs.Texts.{Asking, Items, Entries}
 use Rattle.ax_text.specs.Texts as text
-use Rattle.ax_text.specs.Rows.{Row, ActRow, AskRow, IfRow, EachRow, BothRow, SecondRow, EndRow}
+use Rattle.ax_text.specs.Rows.{HandlerLine, ActLine, AskLine, IfLine, EachLine, BothLine, SecondLine, EndLine}
 use Rattle.ax_syntax.specs.declared.shape.KindWord.{KindWord}
 use Rattle.ax_syntax.specs.declared.shape.KindWord.TheVariants as kind
 use Rattle.ax_syntax.specs.Words.{Word, same_word, keyword_of, field_number, sign_of}
@@ -73,43 +73,43 @@ put_by (Some kind.Map) state (e ∷ f ∷ es) = text.PutAt state e f
 put_by _ state es = text.PutAll state es
 
 -- the row of a line, where the tables are those behind it; the `end` of a handler has none
-unfoldable pub row_of : Tables → Shape → Option Row
-row_of t (Let name value) = Some (ActRow (text.Let (place_in t.locals name) (tree_in t.locals value)))
-row_of t (Get name state missing) = Some (AskRow (text.Get (place_in t.locals name) (place_in (names_of t.states) state) (tree_in t.locals missing)))
-row_of t (GetAt name state at missing) = Some (AskRow (text.GetAt (place_in t.locals name) (place_in (names_of t.states) state) (tree_in t.locals at) (tree_in t.locals missing)))
-row_of t (Has name state at) = Some (AskRow (text.Has (place_in t.locals name) (place_in (names_of t.states) state) (tree_in t.locals at)))
-row_of t (Empty name state) = Some (AskRow (text.Empty (place_in t.locals name) (place_in (names_of t.states) state)))
-row_of t (Put state values) = Some (AskRow (put_by (kind_of t.states state) (place_in (names_of t.states) state) (map (tree_in t.locals) (parts_of values))))
-row_of t (Add state value) = Some (AskRow (text.Add (place_in (names_of t.states) state) (tree_in t.locals value)))
-row_of t (Remove state at) = Some (AskRow (text.Remove (place_in (names_of t.states) state) (tree_in t.locals at)))
-row_of t (Clear state) = Some (AskRow (text.Clear (place_in (names_of t.states) state)))
-row_of t (If test) = Some (IfRow (tree_in t.locals test))
-row_of t (Each name state) = Some (EachRow (Items (place_in t.locals name) (place_in (names_of t.states) state)))
-row_of t (EachPair key number state) = Some (EachRow (Entries (place_in t.locals key) (place_in t.locals number) (place_in (names_of t.states) state)))
-row_of t Both = Some BothRow
-row_of t Else = Some SecondRow
-row_of t With = Some SecondRow
-row_of t End = if is_inside t then Some EndRow else None
-row_of t (Emit values) = Some (ActRow (text.Emit (map (tree_in t.locals) (parts_of values))))
-row_of t (Timer time) = Some (ActRow (text.Timer (tree_in t.locals time)))
-row_of t (Untimer time) = Some (ActRow (text.Untimer (tree_in t.locals time)))
+unfoldable pub row_of : Tables → Shape → Option HandlerLine
+row_of t (Let name value) = Some (ActLine (text.Let (place_in t.locals name) (tree_in t.locals value)))
+row_of t (Get name state missing) = Some (AskLine (text.Get (place_in t.locals name) (place_in (names_of t.states) state) (tree_in t.locals missing)))
+row_of t (GetAt name state at missing) = Some (AskLine (text.GetAt (place_in t.locals name) (place_in (names_of t.states) state) (tree_in t.locals at) (tree_in t.locals missing)))
+row_of t (Has name state at) = Some (AskLine (text.Has (place_in t.locals name) (place_in (names_of t.states) state) (tree_in t.locals at)))
+row_of t (Empty name state) = Some (AskLine (text.Empty (place_in t.locals name) (place_in (names_of t.states) state)))
+row_of t (Put state values) = Some (AskLine (put_by (kind_of t.states state) (place_in (names_of t.states) state) (map (tree_in t.locals) (parts_of values))))
+row_of t (Add state value) = Some (AskLine (text.Add (place_in (names_of t.states) state) (tree_in t.locals value)))
+row_of t (Remove state at) = Some (AskLine (text.Remove (place_in (names_of t.states) state) (tree_in t.locals at)))
+row_of t (Clear state) = Some (AskLine (text.Clear (place_in (names_of t.states) state)))
+row_of t (If test) = Some (IfLine (tree_in t.locals test))
+row_of t (Each name state) = Some (EachLine (Items (place_in t.locals name) (place_in (names_of t.states) state)))
+row_of t (EachPair key number state) = Some (EachLine (Entries (place_in t.locals key) (place_in t.locals number) (place_in (names_of t.states) state)))
+row_of t Both = Some BothLine
+row_of t Else = Some SecondLine
+row_of t With = Some SecondLine
+row_of t End = if is_inside t then Some EndLine else None
+row_of t (Emit values) = Some (ActLine (text.Emit (map (tree_in t.locals) (parts_of values))))
+row_of t (Timer time) = Some (ActLine (text.Timer (tree_in t.locals time)))
+row_of t (Untimer time) = Some (ActLine (text.Untimer (tree_in t.locals time)))
 row_of t _ = None
 
 -- the rows of the two handlers, in order
-pub record HandlerRows : Type 0 where
-  pub row : List Row
-  pub timer : List Row
+pub record HandlerLines : Type 0 where
+  pub row : List HandlerLine
+  pub timer : List HandlerLine
 
-abbrev pub no_rows : HandlerRows
+abbrev pub no_rows : HandlerLines
 no_rows = record { row = []; timer = [] }
 
 -- a row, if there is one, goes last: into `on timer`, or into `on row`
-abbrev pub with_row : Bool → Option Row → HandlerRows → HandlerRows
+abbrev pub with_row : Bool → Option HandlerLine → HandlerLines → HandlerLines
 with_row timer None rows = rows
 with_row true (Some r) rows = record { row = rows.row; timer = rows.timer ++ r ∷ [] }
 with_row false (Some r) rows = record { row = rows.row ++ r ∷ []; timer = rows.timer }
 
 -- the rows of lines, of which the latest comes first
-abbrev pub rows_of : List Shape → HandlerRows
+abbrev pub rows_of : List Shape → HandlerLines
 rows_of [] = no_rows
 rows_of (s ∷ ls) = with_row (tables_of (s ∷ ls)).timer (row_of (tables_of (s ∷ ls)) s) (rows_of ls)

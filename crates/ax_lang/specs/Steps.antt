@@ -2,40 +2,40 @@
 use Rattle.std.specs.Prelude.{◌≡◌, ◌≤◌, ℕ, zero, suc, List, [], ◌∷◌, ◌++◌, map, length, Bool, true, ◌&&◌, Option, Some, None, Vec, nat_le, slice_index_or}
 use Rattle.ax_text.specs.declared.vocabulary.Kind.{Kind}
 use Rattle.ax_text.specs.Texts.{Text, Stop}
-use Rattle.ax_text.specs.Rows.{Row, ActRow, AskRow, IfRow, EachRow, BothRow, SecondRow, EndRow, Body, wide, widened_by, now_of, text_of}
+use Rattle.ax_text.specs.Rows.{HandlerLine, ActLine, AskLine, IfLine, EachLine, BothLine, SecondLine, EndLine, Body, wide, widened_by, now_of, text_of}
 use Rattle.ax_text.specs.Valid.{expr_fits, quiet_fits, asking_fits, loop_fits}
 use Rattle.ax_lang.specs.declared.step.Stmt.{Stmt}
 use Rattle.ax_lang.specs.declared.step.Step.{Step}
-use Rattle.ax_lang.specs.declared.step.Row.{Row as CodeRow}
+use Rattle.ax_lang.specs.declared.step.HandlerLine.{HandlerLine as CodeLine}
 use Rattle.std.specs.declared.alloc.Global.{Global}
 use Rattle.ax_lang.specs.Forms.{form_of, text_with, top_of, row_in, shown_row}
 
 -- what a line speaks of exists, where a row has so many values and there are so many local names and states of these kinds
-abbrev pub row_fits : ℕ → ℕ → List Kind → Row → Bool
-row_fits fields locals kinds (ActRow q) = quiet_fits fields locals q
-row_fits fields locals kinds (AskRow a) = asking_fits fields locals kinds a
-row_fits fields locals kinds (IfRow e) = expr_fits fields locals e
-row_fits fields locals kinds (EachRow l) = loop_fits locals kinds l
-row_fits fields locals kinds BothRow = true
-row_fits fields locals kinds SecondRow = true
-row_fits fields locals kinds EndRow = true
+abbrev pub row_fits : ℕ → ℕ → List Kind → HandlerLine → Bool
+row_fits fields locals kinds (ActLine q) = quiet_fits fields locals q
+row_fits fields locals kinds (AskLine a) = asking_fits fields locals kinds a
+row_fits fields locals kinds (IfLine e) = expr_fits fields locals e
+row_fits fields locals kinds (EachLine l) = loop_fits locals kinds l
+row_fits fields locals kinds BothLine = true
+row_fits fields locals kinds SecondLine = true
+row_fits fields locals kinds EndLine = true
 
 -- so does what a statement speaks of
 abbrev pub stmt_fits : ℕ → ℕ → List Kind → Stmt → Bool
 stmt_fits fields locals kinds s = row_fits fields locals kinds (row_in (form_of s))
 
 -- the lines of a handler that may be missing
-abbrev pub rows_some : Option (Vec CodeRow Global) → List Row
+abbrev pub rows_some : Option (Vec CodeLine Global) → List HandlerLine
 rows_some None = []
 rows_some (Some rows) = map shown_row rows.items
 
 -- the text of a handler that may be missing
-abbrev pub text_if : Option (Vec CodeRow Global) → Option Text
+abbrev pub text_if : Option (Vec CodeLine Global) → Option Text
 text_if None = None
 text_if (Some rows) = Some (text_of (map shown_row rows.items))
 
 -- how many requests the lines of a handler may have out at once, counted line by line
-abbrev pub rows_width : List Row → ℕ
+abbrev pub rows_width : List HandlerLine → ℕ
 rows_width rows = now_of (widened_by rows (wide Body 0 0 ∷ []))
 
 abbrev pub text_in : List Text → ℕ → Text

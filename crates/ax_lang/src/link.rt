@@ -1,12 +1,12 @@
 //! Makes steps of the lines of a handler, from the last one backwards: each step then names places below it.
 ghost use Rattle.std.specs.Prelude.{◌≡◌, ◌≤◌, ◌++◌, ◌∷◌, [], length, map, IfOk, OnOk};
-ghost use Rattle.ax_text.specs.Rows.{SecondRow, EndRow, BothRow, IfRow, EachRow, text_of};
+ghost use Rattle.ax_text.specs.Rows.{SecondLine, EndLine, BothLine, IfLine, EachLine, text_of};
 ghost use Rattle.ax_expr.specs.Shown.{shown_expr};
 ghost use Rattle.ax_lang.specs.Forms.{form_of, row_in, shown_loop, shown_row};
 ghost use Rattle.ax_lang.specs.Steps.{text_at, text_some, text_if, rows_some, GoesOn};
 ghost use Rattle.ax_lang.specs.Links.{AllUpTo, Taken, CanStand, Added, Linked, FitsWith};
 
-use crate::step::{Loop, Row, Step, Stmt};
+use crate::step::{HandlerLine, Loop, Step, Stmt};
 use ax_base::NoMemory;
 use ax_expr::Expr;
 use std::alloc::Global;
@@ -64,7 +64,7 @@ fn add_step(
 
 fn link_if(steps: &mut Vec<Step>, blocks: &mut Vec<Starts>, test: Expr) -> Result<(), NoMemory>
     requires { AllUpTo (length steps.old.items) blocks.old.items }
-    ensures { OnOk result (Linked (IfRow (shown_expr test)) steps.old.items blocks.old.items steps.new.items blocks.new.items) }
+    ensures { OnOk result (Linked (IfLine (shown_expr test)) steps.old.items blocks.old.items steps.new.items blocks.new.items) }
 {
     let inner = take_starts(blocks);
     let block = take_starts(blocks);
@@ -76,7 +76,7 @@ fn link_if(steps: &mut Vec<Step>, blocks: &mut Vec<Starts>, test: Expr) -> Resul
 
 fn link_each(steps: &mut Vec<Step>, blocks: &mut Vec<Starts>, turn: Loop) -> Result<(), NoMemory>
     requires { AllUpTo (length steps.old.items) blocks.old.items }
-    ensures { OnOk result (Linked (EachRow (shown_loop turn)) steps.old.items blocks.old.items steps.new.items blocks.new.items) }
+    ensures { OnOk result (Linked (EachLine (shown_loop turn)) steps.old.items blocks.old.items steps.new.items blocks.new.items) }
 {
     let inner = take_starts(blocks);
     let block = take_starts(blocks);
@@ -87,7 +87,7 @@ fn link_each(steps: &mut Vec<Step>, blocks: &mut Vec<Starts>, turn: Loop) -> Res
 
 fn link_both(steps: &mut Vec<Step>, blocks: &mut Vec<Starts>) -> Result<(), NoMemory>
     requires { AllUpTo (length steps.old.items) blocks.old.items }
-    ensures { OnOk result (Linked BothRow steps.old.items blocks.old.items steps.new.items blocks.new.items) }
+    ensures { OnOk result (Linked BothLine steps.old.items blocks.old.items steps.new.items blocks.new.items) }
 {
     let inner = take_starts(blocks);
     let block = take_starts(blocks);
@@ -116,7 +116,7 @@ fn link_stmt(steps: &mut Vec<Step>, blocks: &mut Vec<Starts>, stmt: Stmt) -> Res
 // The second part of a block is linked, and its first part ends.
 fn link_second(steps: &[Step], blocks: &mut Vec<Starts>) -> Result<(), NoMemory>
     requires { AllUpTo (length steps.now) blocks.old.items }
-    ensures { OnOk result (Linked SecondRow steps.now blocks.old.items steps.now blocks.new.items) }
+    ensures { OnOk result (Linked SecondLine steps.now blocks.old.items steps.now blocks.new.items) }
 {
     let second = take_starts(blocks).text;
     push_starts(blocks, Starts { text: 0, second })?;
@@ -126,26 +126,34 @@ fn link_second(steps: &[Step], blocks: &mut Vec<Starts>) -> Result<(), NoMemory>
 // A block ends.
 fn link_end(steps: &[Step], blocks: &mut Vec<Starts>) -> Result<(), NoMemory>
     requires { AllUpTo (length steps.now) blocks.old.items }
-    ensures { OnOk result (Linked EndRow steps.now blocks.old.items steps.now blocks.new.items) }
+    ensures { OnOk result (Linked EndLine steps.now blocks.old.items steps.now blocks.new.items) }
 {
     push_starts(blocks, Starts { text: 0, second: 0 })?;
     Ok(())
 }
 
 // A line stands before those that are linked.
-fn link_row(steps: &mut Vec<Step>, blocks: &mut Vec<Starts>, row: Row) -> Result<(), NoMemory>
+fn link_row(
+    steps: &mut Vec<Step>,
+    blocks: &mut Vec<Starts>,
+    row: HandlerLine,
+) -> Result<(), NoMemory>
     requires { AllUpTo (length steps.old.items) blocks.old.items }
     ensures { OnOk result (Linked (shown_row row) steps.old.items blocks.old.items steps.new.items blocks.new.items) }
 {
     match row {
-        Row::Statement(stmt) => link_stmt(steps, blocks, stmt),
-        Row::Second => link_second(steps.as_slice(), blocks),
-        Row::End => link_end(steps.as_slice(), blocks),
+        HandlerLine::Statement(stmt) => link_stmt(steps, blocks, stmt),
+        HandlerLine::Second => link_second(steps.as_slice(), blocks),
+        HandlerLine::End => link_end(steps.as_slice(), blocks),
     }
 }
 
 // Puts a handler's lines into the table, and gives the place where it begins.
-pub(crate) fn link(alloc: Global, steps: &mut Vec<Step>, rows: Vec<Row>) -> Result<usize, NoMemory>
+pub(crate) fn link(
+    alloc: Global,
+    steps: &mut Vec<Step>,
+    rows: Vec<HandlerLine>,
+) -> Result<usize, NoMemory>
     ensures text { IfOk result (λ first. text_at steps.new.items first ≡ text_of (map shown_row rows.items)) }
     ensures place { IfOk result (λ first. first ≤ length steps.new.items) }
     ensures stays { OnOk result (GoesOn steps.old.items steps.new.items) }
@@ -163,7 +171,7 @@ pub(crate) fn link(alloc: Global, steps: &mut Vec<Step>, rows: Vec<Row>) -> Resu
 pub(crate) fn link_some(
     alloc: Global,
     steps: &mut Vec<Step>,
-    rows: Option<Vec<Row>>,
+    rows: Option<Vec<HandlerLine>>,
 ) -> Result<Option<usize>, NoMemory>
     ensures text { IfOk result (λ first. text_some steps.new.items first ≡ text_if rows) }
     ensures stays { OnOk result (GoesOn steps.old.items steps.new.items) }

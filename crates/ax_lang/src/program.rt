@@ -14,7 +14,7 @@ ghost use Rattle.ax_lang.specs.Names.{text_names, names_some, rows_names, progra
 ghost use Rattle.ax_lang.specs.Steps.{row_fits, rows_some, rows_width, text_if, text_at, text_some, steps_fit};
 
 use crate::link::{link, link_some};
-use crate::step::{Row, Step};
+use crate::step::{HandlerLine, Step};
 use ax_base::NoMemory;
 use ax_state::Decls;
 use ax_text::Handler;
@@ -60,8 +60,8 @@ impl Program {
         decls: Decls,
         locals: usize,
         width: u8,
-        row: Vec<Row>,
-        timer: Option<Vec<Row>>,
+        row: Vec<HandlerLine>,
+        timer: Option<Vec<HandlerLine>>,
     ) -> Result<Program, NoMemory>
         requires fields { fields ≤ 16 }
         requires states { length decls ≤ 64 }

@@ -14,7 +14,7 @@ ghost use Rattle.ax_lang.specs.Programs.{kind_in, state_in, fields_or, timer_tex
 
 use crate::program::Program;
 use crate::rows::row_of;
-use crate::step::Row;
+use crate::step::HandlerLine;
 use ax_base::{Duplicate, Line, ListOf, NoMemory};
 pub use ax_rules::SectionEnd;
 use ax_rules::{DeclaredState, FaultKind, Tables};
@@ -41,12 +41,12 @@ pub enum ProgFault {
 #[derive(Drop)]
 pub(crate) struct Handlers {
     /// Those of `on row`.
-    row: Vec<Row>,
+    row: Vec<HandlerLine>,
     /// Those of `on timer`.
-    timer: Vec<Row>,
+    timer: Vec<HandlerLine>,
 }
 
-fn push(rows: &mut Vec<Row>, row: Row) -> Result<(), NoMemory>
+fn push(rows: &mut Vec<HandlerLine>, row: HandlerLine) -> Result<(), NoMemory>
     ensures { OnOk result (map shown_row rows.new.items ≡ map shown_row rows.old.items ++ shown_row row ∷ []) }
 {
     match rows.push(row) {
@@ -57,7 +57,7 @@ fn push(rows: &mut Vec<Row>, row: Row) -> Result<(), NoMemory>
 
 impl Handlers {
     // A row, if there is one, goes last into a handler.
-    fn push_some(&mut self, timer: bool, row: Option<Row>) -> Result<(), NoMemory>
+    fn push_some(&mut self, timer: bool, row: Option<HandlerLine>) -> Result<(), NoMemory>
         ensures { OnOk result (shown_handlers self.new ≡ with_row timer (row_some row) (shown_handlers self.old)) }
     {
         match row {
@@ -128,7 +128,7 @@ fn fields_or(fields: Option<u8>) -> u8
 }
 
 // The lines of `on timer`, where there is one; without one there are none.
-fn timer_if(has: bool, rows: Vec<Row>) -> Option<Vec<Row>>
+fn timer_if(has: bool, rows: Vec<HandlerLine>) -> Option<Vec<HandlerLine>>
     requires { has ≡ false → map shown_row rows.items ≡ [] }
     ensures rows { rows_some result ≡ map shown_row rows.items }
     ensures text { text_if result ≡ timer_text has (map shown_row rows.items) }

@@ -13,7 +13,7 @@ ghost use Rattle.ax_lang.specs.Forms.{Asks, form_of, shown_row};
 ghost use Rattle.ax_lang.specs.Rows.{place_in, moment_or, field_or, atom_of, token_of, tree_or, tree_in, put_by, row_of};
 ghost use Rattle.ax_lang.specs.Programs.{row_some};
 
-use crate::step::{Loop, Row, Stmt};
+use crate::step::{HandlerLine, Loop, Stmt};
 use ax_base::{Bytes, ListOf, NoMemory, read_i64};
 use ax_expr::{Expr, Refusal, Token, read_expr};
 use ax_rules::{DeclaredState, Tables};
@@ -180,7 +180,7 @@ fn put_by(
 
 // A statement that reads a state.
 #[tactic(auto, unfolding(crate::specs::Rows::row_of))]
-fn read_of(alloc: Global, tables: &Tables, shape: &Shape) -> Result<Option<Row>, NoMemory>
+fn read_of(alloc: Global, tables: &Tables, shape: &Shape) -> Result<Option<HandlerLine>, NoMemory>
     requires { length tables.now.states ≤ 64 }
     ensures { asks (shown_shape shape.now) ≡ true → changes (shown_shape shape.now) ≡ false → IfOk result (λ row. row_some row ≡ row_of tables.now (shown_shape shape.now)) }
 {
@@ -209,12 +209,12 @@ fn read_of(alloc: Global, tables: &Tables, shape: &Shape) -> Result<Option<Row>,
         },
         _ => return Ok(None),
     };
-    Ok(Some(Row::Statement(stmt)))
+    Ok(Some(HandlerLine::Statement(stmt)))
 }
 
 // A statement that changes a state.
 #[tactic(auto, unfolding(crate::specs::Rows::row_of))]
-fn change_of(alloc: Global, tables: &Tables, shape: &Shape) -> Result<Option<Row>, NoMemory>
+fn change_of(alloc: Global, tables: &Tables, shape: &Shape) -> Result<Option<HandlerLine>, NoMemory>
     requires { length tables.now.states ≤ 64 }
     ensures { changes (shown_shape shape.now) ≡ true → IfOk result (λ row. row_some row ≡ row_of tables.now (shown_shape shape.now)) }
 {
@@ -244,12 +244,12 @@ fn change_of(alloc: Global, tables: &Tables, shape: &Shape) -> Result<Option<Row
         },
         _ => return Ok(None),
     };
-    Ok(Some(Row::Statement(stmt)))
+    Ok(Some(HandlerLine::Statement(stmt)))
 }
 
 // The line that begins a block.
 #[tactic(auto, unfolding(crate::specs::Rows::row_of))]
-fn block_of(alloc: Global, tables: &Tables, shape: &Shape) -> Result<Option<Row>, NoMemory>
+fn block_of(alloc: Global, tables: &Tables, shape: &Shape) -> Result<Option<HandlerLine>, NoMemory>
     requires { length tables.now.states ≤ 64 }
     ensures { opens (shown_shape shape.now) ≡ true → IfOk result (λ row. row_some row ≡ row_of tables.now (shown_shape shape.now)) }
 {
@@ -279,7 +279,7 @@ fn block_of(alloc: Global, tables: &Tables, shape: &Shape) -> Result<Option<Row>
         Shape::Both => Stmt::Both { one: 0, two: 0 },
         _ => return Ok(None),
     };
-    Ok(Some(Row::Statement(stmt)))
+    Ok(Some(HandlerLine::Statement(stmt)))
 }
 
 /// The row of a line, where the tables are those behind it: none of a declaration, of the line that begins a handler, and of
@@ -287,7 +287,11 @@ fn block_of(alloc: Global, tables: &Tables, shape: &Shape) -> Result<Option<Row>
 ///
 /// Condition: there are at most 64 states.
 #[tactic(auto, unfolding(crate::specs::Rows::row_of))]
-pub fn row_of(alloc: Global, tables: &Tables, shape: &Shape) -> Result<Option<Row>, NoMemory>
+pub fn row_of(
+    alloc: Global,
+    tables: &Tables,
+    shape: &Shape,
+) -> Result<Option<HandlerLine>, NoMemory>
     requires { length tables.now.states ≤ 64 }
     ensures { IfOk result (λ row. row_some row ≡ row_of tables.now (shown_shape shape.now)) }
 {
@@ -297,19 +301,19 @@ pub fn row_of(alloc: Global, tables: &Tables, shape: &Shape) -> Result<Option<Ro
         Shape::Let(name, value) => {
             let name = place_in(locals, name.as_slice());
             let value = tree_in(alloc, locals, value)?;
-            Ok(Some(Row::Statement(Stmt::Let { name, value })))
+            Ok(Some(HandlerLine::Statement(Stmt::Let { name, value })))
         }
         Shape::Emit(values) => {
             let values = trees_in(alloc, locals, values)?;
-            Ok(Some(Row::Statement(Stmt::Emit { values })))
+            Ok(Some(HandlerLine::Statement(Stmt::Emit { values })))
         }
         Shape::Timer(time) => {
             let time = tree_in(alloc, locals, time)?;
-            Ok(Some(Row::Statement(Stmt::SetTimer { time })))
+            Ok(Some(HandlerLine::Statement(Stmt::SetTimer { time })))
         }
         Shape::Untimer(time) => {
             let time = tree_in(alloc, locals, time)?;
-            Ok(Some(Row::Statement(Stmt::UnsetTimer { time })))
+            Ok(Some(HandlerLine::Statement(Stmt::UnsetTimer { time })))
         }
         Shape::Put(..) | Shape::Add(..) | Shape::Remove(..) | Shape::Clear(_) => {
             change_of(alloc, tables, shape)
@@ -317,10 +321,10 @@ pub fn row_of(alloc: Global, tables: &Tables, shape: &Shape) -> Result<Option<Ro
         Shape::If(_) | Shape::Each(..) | Shape::EachPair(..) | Shape::Both => {
             block_of(alloc, tables, shape)
         }
-        Shape::Else | Shape::With => Ok(Some(Row::Second)),
+        Shape::Else | Shape::With => Ok(Some(HandlerLine::Second)),
         Shape::End => {
             if tables.is_inside() {
-                Ok(Some(Row::End))
+                Ok(Some(HandlerLine::End))
             } else {
                 Ok(None)
             }

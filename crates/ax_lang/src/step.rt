@@ -119,7 +119,7 @@ pub struct Step {
 
 /// A line of a handler, before its places are known.
 #[derive(Drop)]
-pub(crate) enum Row {
+pub(crate) enum HandlerLine {
     /// A statement, which names no places yet: 0 in place of each.
     Statement(Stmt),
     /// The second part of a block begins: `else`, or `with`.

@@ -3,7 +3,7 @@ use Rattle.std.proofs.Common.{◌≡◌, ◌∙◌, ℕ, ◌+◌, ◌≤◌, max
 use Rattle.std.specs.List.{list_any}
 use Rattle.std.proofs.lemmas.Bool.{and_parts, and_from, false≢true, ltb-false}
 use Rattle.ax_text.specs.Prints.{Print as RowPrint, quiet_print, asking_print, loop_print, test_print}
-use Rattle.ax_text.specs.Rows.{Row, ActRow, AskRow, IfRow, EachRow, BothRow, SecondRow, EndRow, Wide, widened, widened_by, may_follow, can_close, follow, now_of, Lines, row_ok, all_ok}
+use Rattle.ax_text.specs.Rows.{HandlerLine, ActLine, AskLine, IfLine, EachLine, BothLine, SecondLine, EndLine, Wide, widened, widened_by, may_follow, can_close, follow, now_of, Lines, row_ok, all_ok}
 use Rattle.ax_syntax.specs.Shapes.{Shape, Input, State, OnRow, OnTimer, End, If, Else, Each, EachPair, Both, With}
 use Rattle.ax_rules.specs.declared.blocks.Part.{Part}
 use Rattle.ax_rules.specs.declared.blocks.Part.TheVariants as part
@@ -20,60 +20,60 @@ use Rattle.ax_rules.proofs.StayLemmas.{stays_alike}
 use Rattle.ax_rules.proofs.WidthLemmas.{widens_alike}
 
 -- the rule of arms for one row
-abbrev row_passes : Row → List Lines → Bool
-row_passes (ActRow q) bs = row_ok (quiet_print q) bs
-row_passes (AskRow a) bs = row_ok (asking_print a) bs
-row_passes (IfRow e) bs = row_ok (test_print e) bs
-row_passes (EachRow l) bs = row_ok (loop_print l) bs
-row_passes BothRow bs = true
-row_passes SecondRow bs = true
-row_passes EndRow bs = true
+abbrev row_passes : HandlerLine → List Lines → Bool
+row_passes (ActLine q) bs = row_ok (quiet_print q) bs
+row_passes (AskLine a) bs = row_ok (asking_print a) bs
+row_passes (IfLine e) bs = row_ok (test_print e) bs
+row_passes (EachLine l) bs = row_ok (loop_print l) bs
+row_passes BothLine bs = true
+row_passes SecondLine bs = true
+row_passes EndLine bs = true
 
-abbrev pub lines_by : List Row → List Lines → List Lines
+abbrev pub lines_by : List HandlerLine → List Lines → List Lines
 lines_by [] bs = bs
 lines_by (r ∷ rs) bs = lines_by rs (lines_with r (row_print r) bs)
 
-lines_more : (rs : List Row) (r : Row) (bs : List Lines) → lines_by (rs ++ r ∷ []) bs ≡ lines_with r (row_print r) (lines_by rs bs)
+lines_more : (rs : List HandlerLine) (r : HandlerLine) (bs : List Lines) → lines_by (rs ++ r ∷ []) bs ≡ lines_with r (row_print r) (lines_by rs bs)
 lines_more [] r bs = refl
 lines_more (q ∷ rs) r bs = lines_more rs r (lines_with q (row_print q) bs)
 
-ok_one : (r : Row) (bs : List Lines) → row_passes r bs ≡ true → all_ok (r ∷ []) bs ≡ true
-ok_one (ActRow q) bs h = and_from (row_ok (quiet_print q) bs) true h refl
-ok_one (AskRow a) bs h = and_from (row_ok (asking_print a) bs) true h refl
-ok_one (IfRow e) bs h = and_from (row_ok (test_print e) bs) true h refl
-ok_one (EachRow l) bs h = and_from (row_ok (loop_print l) bs) true h refl
-ok_one BothRow bs h = refl
-ok_one SecondRow bs h = refl
-ok_one EndRow bs h = refl
+ok_one : (r : HandlerLine) (bs : List Lines) → row_passes r bs ≡ true → all_ok (r ∷ []) bs ≡ true
+ok_one (ActLine q) bs h = and_from (row_ok (quiet_print q) bs) true h refl
+ok_one (AskLine a) bs h = and_from (row_ok (asking_print a) bs) true h refl
+ok_one (IfLine e) bs h = and_from (row_ok (test_print e) bs) true h refl
+ok_one (EachLine l) bs h = and_from (row_ok (loop_print l) bs) true h refl
+ok_one BothLine bs h = refl
+ok_one SecondLine bs h = refl
+ok_one EndLine bs h = refl
 
 second_of : (a b c : Bool) → (a && b) ≡ true → (b ≡ true → c ≡ true) → (a && c) ≡ true
 second_of a b c h g = let p = and_parts a b h in and_from a c p.0 (g p.1)
 
-ok_more : (rs : List Row) (r : Row) (bs : List Lines) → all_ok rs bs ≡ true → row_passes r (lines_by rs bs) ≡ true → all_ok (rs ++ r ∷ []) bs ≡ true
+ok_more : (rs : List HandlerLine) (r : HandlerLine) (bs : List Lines) → all_ok rs bs ≡ true → row_passes r (lines_by rs bs) ≡ true → all_ok (rs ++ r ∷ []) bs ≡ true
 ok_more [] r bs h g = ok_one r bs g
-ok_more (ActRow q ∷ rs) r bs h g = second_of (row_ok (quiet_print q) bs) _ _ h (λ k. ok_more rs r _ k g)
-ok_more (AskRow a ∷ rs) r bs h g = second_of (row_ok (asking_print a) bs) _ _ h (λ k. ok_more rs r _ k g)
-ok_more (IfRow e ∷ rs) r bs h g = second_of (row_ok (test_print e) bs) _ _ h (λ k. ok_more rs r _ k g)
-ok_more (EachRow l ∷ rs) r bs h g = second_of (row_ok (loop_print l) bs) _ _ h (λ k. ok_more rs r _ k g)
-ok_more (BothRow ∷ rs) r bs h g = ok_more rs r _ h g
-ok_more (SecondRow ∷ rs) r bs h g = ok_more rs r _ h g
-ok_more (EndRow ∷ rs) r bs h g = ok_more rs r _ h g
+ok_more (ActLine q ∷ rs) r bs h g = second_of (row_ok (quiet_print q) bs) _ _ h (λ k. ok_more rs r _ k g)
+ok_more (AskLine a ∷ rs) r bs h g = second_of (row_ok (asking_print a) bs) _ _ h (λ k. ok_more rs r _ k g)
+ok_more (IfLine e ∷ rs) r bs h g = second_of (row_ok (test_print e) bs) _ _ h (λ k. ok_more rs r _ k g)
+ok_more (EachLine l ∷ rs) r bs h g = second_of (row_ok (loop_print l) bs) _ _ h (λ k. ok_more rs r _ k g)
+ok_more (BothLine ∷ rs) r bs h g = ok_more rs r _ h g
+ok_more (SecondLine ∷ rs) r bs h g = ok_more rs r _ h g
+ok_more (EndLine ∷ rs) r bs h g = ok_more rs r _ h g
 
 -- each row may follow those before it
-abbrev pub all_follow : List Row → List Wide → Bool
+abbrev pub all_follow : List HandlerLine → List Wide → Bool
 all_follow [] bs = true
 all_follow (r ∷ rs) bs = may_follow r bs && all_follow rs (widened r bs)
 
-follow_more : (rs : List Row) (r : Row) (bs : List Wide) → all_follow rs bs ≡ true → may_follow r (widened_by rs bs) ≡ true → all_follow (rs ++ r ∷ []) bs ≡ true
+follow_more : (rs : List HandlerLine) (r : HandlerLine) (bs : List Wide) → all_follow rs bs ≡ true → may_follow r (widened_by rs bs) ≡ true → all_follow (rs ++ r ∷ []) bs ≡ true
 follow_more [] r bs h g = and_from (may_follow r bs) true g refl
 follow_more (q ∷ rs) r bs h g = second_of (may_follow q bs) _ _ h (λ k. follow_more rs r (widened q bs) k g)
 
-widened_more : (rs : List Row) (r : Row) (bs : List Wide) → widened_by (rs ++ r ∷ []) bs ≡ widened r (widened_by rs bs)
+widened_more : (rs : List HandlerLine) (r : HandlerLine) (bs : List Wide) → widened_by (rs ++ r ∷ []) bs ≡ widened r (widened_by rs bs)
 widened_more [] r bs = refl
 widened_more (q ∷ rs) r bs = widened_more rs r (widened q bs)
 
 -- no block is left open
-all_closed : (rs : List Row) (bs : List Wide) → all_follow rs bs ≡ true → can_close (widened_by rs bs) ≡ false → follow rs bs ≡ true
+all_closed : (rs : List HandlerLine) (bs : List Wide) → all_follow rs bs ≡ true → can_close (widened_by rs bs) ≡ false → follow rs bs ≡ true
 all_closed [] bs h g = ap not g
 all_closed (r ∷ rs) bs h g = second_of (may_follow r bs) _ _ h (λ k. all_closed rs (widened r bs) k g)
 
@@ -153,12 +153,12 @@ opened_handler : (p : Part) (n : ℕ) (fs : List Frame) → IsHandler fs → IsH
 opened_handler p n [] h = absurd h
 opened_handler p n (f ∷ fs) h = h
 
-turned_handler : (fs : List Frame) → may_follow SecondRow (map wide_in fs) ≡ true → IsHandler fs → IsHandler (turned fs)
+turned_handler : (fs : List Frame) → may_follow SecondLine (map wide_in fs) ≡ true → IsHandler fs → IsHandler (turned fs)
 turned_handler [] m h = h
 turned_handler (f ∷ []) m h = absurd (false≢true m)
 turned_handler (f ∷ g ∷ fs) m h = h
 
-closed_handler : (fs : List Frame) → may_follow EndRow (map wide_in fs) ≡ true → IsHandler fs → IsHandler (closed fs)
+closed_handler : (fs : List Frame) → may_follow EndLine (map wide_in fs) ≡ true → IsHandler fs → IsHandler (closed fs)
 closed_handler [] m h = h
 closed_handler (f ∷ []) m h = absurd (false≢true m)
 closed_handler (f ∷ g ∷ fs) m h = raised_handler (block_width f) (g ∷ fs) h
@@ -166,16 +166,16 @@ closed_handler (f ∷ g ∷ fs) m h = raised_handler (block_width f) (g ∷ fs) 
 act_handler : (n : ℕ) (p : Print) (fs : List Frame) → IsHandler fs → IsHandler (raised n (map (note p) fs))
 act_handler n p fs h = raised_handler n (map (note p) fs) (note_handler p fs h)
 
-handler_with : (s : Shape) (r : Row) (p : Print) (fs : List Frame) → makes s r ≡ true → may_follow r (map wide_in fs) ≡ true → IsHandler fs → IsHandler (frames_with s p fs)
+handler_with : (s : Shape) (r : HandlerLine) (p : Print) (fs : List Frame) → makes s r ≡ true → may_follow r (map wide_in fs) ≡ true → IsHandler fs → IsHandler (frames_with s p fs)
 handler_with (Input fields) r p fs m f h = h
 handler_with (State name kind) r p fs m f h = h
 handler_with OnRow r p fs m f h = (refl, refl)
 handler_with OnTimer r p fs m f h = (refl, refl)
-handler_with End EndRow p fs m f h = closed_handler fs f h
+handler_with End EndLine p fs m f h = closed_handler fs f h
 handler_with End r p fs m f h = absurd (false≢true m)
-handler_with Else SecondRow p fs m f h = turned_handler fs f h
+handler_with Else SecondLine p fs m f h = turned_handler fs f h
 handler_with Else r p fs m f h = absurd (false≢true m)
-handler_with With SecondRow p fs m f h = turned_handler fs f h
+handler_with With SecondLine p fs m f h = turned_handler fs f h
 handler_with With r p fs m f h = absurd (false≢true m)
 handler_with (If test) r p fs m f h = opened_handler part.Yes 0 (map (note p) fs) (note_handler p fs h)
 handler_with (Each name state) r p fs m f h = opened_handler part.Body 1 (map (note p) fs) (note_handler p fs h)
@@ -184,7 +184,7 @@ handler_with Both r p fs m f h = opened_handler part.One 0 (map (note p) fs) (no
 handler_with s r p fs m f h = act_handler (asked (use_of s)) p fs h
 
 -- the rows of a handler's lines so far, where these blocks are open
-pub record Runs (fs : List Frame) (rs : List Row) : Type 0 where
+pub record Runs (fs : List Frame) (rs : List HandlerLine) : Type 0 where
   pub follows : all_follow rs handler ≡ true
   pub wide : map wide_in fs ≡ widened_by rs handler
   pub ok : all_ok rs [] ≡ true
@@ -202,14 +202,14 @@ passes s q p fs bs h e l a c =
     (ap not (ap (λ (b : Bool). b && list_any is_arm fs) l ∙ a))
     (ap not (sym (ap (λ (x : Print). has_conflict x fs) e) ∙ c))
 
-row_passes_by : (s : Shape) (r : Row) (p : Print) (fs : List Frame) (bs : List Lines) → AllHold fs bs → p ≡ print_for r (row_print r) → (row_print r).loud ≡ is_loud s → is_loud_in_arm s fs ≡ false → has_conflict p fs ≡ false → row_passes r bs ≡ true
-row_passes_by s (ActRow q) p fs bs h e l a c = passes s (quiet_print q) p fs bs h e l a c
-row_passes_by s (AskRow x) p fs bs h e l a c = passes s (asking_print x) p fs bs h e l a c
-row_passes_by s (IfRow x) p fs bs h e l a c = passes s (test_print x) p fs bs h e l a c
-row_passes_by s (EachRow x) p fs bs h e l a c = passes s (loop_print x) p fs bs h e l a c
-row_passes_by s BothRow p fs bs h e l a c = refl
-row_passes_by s SecondRow p fs bs h e l a c = refl
-row_passes_by s EndRow p fs bs h e l a c = refl
+row_passes_by : (s : Shape) (r : HandlerLine) (p : Print) (fs : List Frame) (bs : List Lines) → AllHold fs bs → p ≡ print_for r (row_print r) → (row_print r).loud ≡ is_loud s → is_loud_in_arm s fs ≡ false → has_conflict p fs ≡ false → row_passes r bs ≡ true
+row_passes_by s (ActLine q) p fs bs h e l a c = passes s (quiet_print q) p fs bs h e l a c
+row_passes_by s (AskLine x) p fs bs h e l a c = passes s (asking_print x) p fs bs h e l a c
+row_passes_by s (IfLine x) p fs bs h e l a c = passes s (test_print x) p fs bs h e l a c
+row_passes_by s (EachLine x) p fs bs h e l a c = passes s (loop_print x) p fs bs h e l a c
+row_passes_by s BothLine p fs bs h e l a c = refl
+row_passes_by s SecondLine p fs bs h e l a c = refl
+row_passes_by s EndLine p fs bs h e l a c = refl
 
 -- a line has none of the faults of blocks
 pub record IsFree (s : Shape) (p : Print) (fs : List Frame) : Type 0 where
@@ -218,7 +218,7 @@ pub record IsFree (s : Shape) (p : Print) (fs : List Frame) : Type 0 where
   pub narrow : is_too_wide s fs ≡ false
 
 -- one row more
-pub runs_on : (s : Shape) (r : Row) (p : Print) (fs : List Frame) (rs : List Row) → IsRowOf s p r → IsFree s p fs → may_follow r (map wide_in fs) ≡ true → Runs fs rs → Runs (frames_with s p fs) (rs ++ r ∷ [])
+pub runs_on : (s : Shape) (r : HandlerLine) (p : Print) (fs : List Frame) (rs : List HandlerLine) → IsRowOf s p r → IsFree s p fs → may_follow r (map wide_in fs) ≡ true → Runs fs rs → Runs (frames_with s p fs) (rs ++ r ∷ [])
 runs_on s r p fs rs i c f h =
     let may : may_follow r (widened_by rs handler) ≡ true = subst (λ (bs : List Wide). may_follow r bs ≡ true) h.wide f in
     record {
@@ -233,7 +233,7 @@ runs_on s r p fs rs i c f h =
     }
 
 -- the rows of a handler that has ended, of this width
-pub record Ended (rs : List Row) (n : ℕ) : Type 0 where
+pub record Ended (rs : List HandlerLine) (n : ℕ) : Type 0 where
   pub follows : follow rs handler ≡ true
   pub ok : all_ok rs [] ≡ true
   pub width : now_of (widened_by rs handler) ≡ n
@@ -245,7 +245,7 @@ one_part p first width e f = no_first first width f ∙ ap (λ (q : Part). width
   no_first first width f = omega arith
 
 -- its own `end`
-pub ends : (f : Frame) (rs : List Row) → is_too_wide End (f ∷ []) ≡ false → Runs (f ∷ []) rs → Ended rs (top_width (f ∷ []))
+pub ends : (f : Frame) (rs : List HandlerLine) → is_too_wide End (f ∷ []) ≡ false → Runs (f ∷ []) rs → Ended rs (top_width (f ∷ []))
 ends f rs w h = record {
   follows = all_closed rs handler h.follows (ap can_close (sym h.wide));
   ok = h.ok;

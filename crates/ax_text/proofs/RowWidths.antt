@@ -3,7 +3,7 @@ use Rattle.std.proofs.Common.{◌≡◌, ◌∙◌, ℕ, ◌+◌, max, List, [],
 use Rattle.ax_text.specs.Texts.{Text, Act, Ask, If, Each, Both}
 use Rattle.ax_text.specs.Programs.{width}
 use Rattle.std.proofs.lemmas.Bool.{and_parts, both_ways}
-use Rattle.ax_text.specs.Rows.{has_second, may_follow, follow, widened_by, now_of, text_of, Row, ActRow, AskRow, IfRow, EachRow, BothRow, SecondRow, EndRow, Level, top, below, with_text, before, levels_of, Part, Yes', No', Body, One, Two, Wide, wide, raised, other, block_width, widened}
+use Rattle.ax_text.specs.Rows.{has_second, may_follow, follow, widened_by, now_of, text_of, HandlerLine, ActLine, AskLine, IfLine, EachLine, BothLine, SecondLine, EndLine, Level, top, below, with_text, before, levels_of, Part, Yes', No', Body, One, Two, Wide, wide, raised, other, block_width, widened}
 
 -- how wide a block comes to be, where this is left of its part, and this is its second part
 comes : Part → ℕ → ℕ → ℕ → ℕ → ℕ
@@ -69,37 +69,37 @@ turn_comes One first now text second h = omega arith
 turn_comes Two first now text second h = absurd (both_ways false refl h)
 
 -- one row
-row_total : (r : Row) (bs : List Wide) (ls : List Level) → may_follow r bs ≡ true → total 0 (widened r bs) ls ≡ total 0 bs (before r ls)
+row_total : (r : HandlerLine) (bs : List Wide) (ls : List Level) → may_follow r bs ≡ true → total 0 (widened r bs) ls ≡ total 0 bs (before r ls)
 unfolding total comes
-row_total (ActRow q) bs ls h = ap (λ (k : ℕ). total k bs ls) zero_max ∙ raise 0 bs ls 0 (Act q (top ls).text) (omega arith) where
+row_total (ActLine q) bs ls h = ap (λ (k : ℕ). total k bs ls) zero_max ∙ raise 0 bs ls 0 (Act q (top ls).text) (omega arith) where
   zero_max : 0 ≡ max 0 0
   zero_max = omega arith
-row_total (AskRow a) bs ls h = total_raised 1 0 bs ls ∙ raise 0 bs ls 1 (Ask a (top ls).text) refl
-row_total (IfRow e) [] ls h = absurd (both_ways false refl h)
-row_total (IfRow e) (b ∷ bs) ls h =
+row_total (AskLine a) bs ls h = total_raised 1 0 bs ls ∙ raise 0 bs ls 1 (Ask a (top ls).text) refl
+row_total (IfLine e) [] ls h = absurd (both_ways false refl h)
+row_total (IfLine e) (b ∷ bs) ls h =
     ap (λ (k : ℕ). total k (b ∷ bs) (below ls)) (max_more (width (top ls).text) (width (top ls).second)) ∙ raise 0 (b ∷ bs) (below ls) (max (width (top ls).text) (width (top ls).second)) (If e (top ls).text (top ls).second (top (below ls)).text) refl where
       max_more : (x y : ℕ) → max (max (max 0 0) x) y ≡ max (max x y) 0
       max_more x y = omega arith
-row_total (EachRow l) [] ls h = absurd (both_ways false refl h)
-row_total (EachRow l) (b ∷ bs) ls h =
+row_total (EachLine l) [] ls h = absurd (both_ways false refl h)
+row_total (EachLine l) (b ∷ bs) ls h =
     ap (λ (k : ℕ). total k (b ∷ bs) (below ls)) (max_more (width (top ls).text)) ∙ raise 0 (b ∷ bs) (below ls) (max 1 (width (top ls).text)) (Each l (top ls).text (top (below ls)).text) refl where
       max_more : (x : ℕ) → max 0 (max (max 1 0) x) ≡ max (max 1 x) 0
       max_more x = omega arith
-row_total BothRow [] ls h = absurd (both_ways false refl h)
-row_total BothRow (b ∷ bs) ls h =
+row_total BothLine [] ls h = absurd (both_ways false refl h)
+row_total BothLine (b ∷ bs) ls h =
     ap (λ (k : ℕ). total k (b ∷ bs) (below ls)) (max_more (width (top ls).text) (width (top ls).second)) ∙ raise 0 (b ∷ bs) (below ls) (width (top ls).text + width (top ls).second) (Both (top ls).text (top ls).second (top (below ls)).text) refl where
       max_more : (x y : ℕ) → max (max 0 0) x + y ≡ max (x + y) 0
       max_more x y = omega arith
-row_total SecondRow [] ls h = absurd (both_ways false refl h)
-row_total SecondRow (b ∷ []) ls h = absurd (both_ways false refl h)
-row_total SecondRow (b ∷ c ∷ bs) ls h = ap (λ (k : ℕ). total k (c ∷ bs) (below ls)) (turn_comes b.part b.first b.now (width (top ls).text) (width (top ls).second) h)
-row_total EndRow [] ls h = absurd (both_ways false refl h)
-row_total EndRow (b ∷ []) ls h = absurd (both_ways false refl h)
-row_total EndRow (b ∷ c ∷ bs) ls h = total_raised (block_width b.part b.first b.now) 0 (c ∷ bs) ls ∙ ap (λ (k : ℕ). total k (c ∷ bs) ls) (more (block_width b.part b.first b.now) ∙ sym (end_comes b.part b.first b.now)) where
+row_total SecondLine [] ls h = absurd (both_ways false refl h)
+row_total SecondLine (b ∷ []) ls h = absurd (both_ways false refl h)
+row_total SecondLine (b ∷ c ∷ bs) ls h = ap (λ (k : ℕ). total k (c ∷ bs) (below ls)) (turn_comes b.part b.first b.now (width (top ls).text) (width (top ls).second) h)
+row_total EndLine [] ls h = absurd (both_ways false refl h)
+row_total EndLine (b ∷ []) ls h = absurd (both_ways false refl h)
+row_total EndLine (b ∷ c ∷ bs) ls h = total_raised (block_width b.part b.first b.now) 0 (c ∷ bs) ls ∙ ap (λ (k : ℕ). total k (c ∷ bs) ls) (more (block_width b.part b.first b.now) ∙ sym (end_comes b.part b.first b.now)) where
   more : (x : ℕ) → max x 0 ≡ x
   more x = omega arith
 
-rows_total : (rs : List Row) (bs : List Wide) → follow rs bs ≡ true → now_of (widened_by rs bs) ≡ total 0 bs (levels_of rs)
+rows_total : (rs : List HandlerLine) (bs : List Wide) → follow rs bs ≡ true → now_of (widened_by rs bs) ≡ total 0 bs (levels_of rs)
 unfolding total
 rows_total [] [] h = refl
 rows_total [] (b ∷ []) h = omega arith
@@ -109,7 +109,7 @@ rows_total (r ∷ rs) bs h =
     rows_total rs (widened r bs) x.1 ∙ row_total r bs (levels_of rs) x.0
 
 -- what was counted forward over the rows of a handler is the width of its text
-pub counted_width : (rs : List Row) → follow rs (wide Body 0 0 ∷ []) ≡ true → now_of (widened_by rs (wide Body 0 0 ∷ [])) ≡ width (text_of rs)
+pub counted_width : (rs : List HandlerLine) → follow rs (wide Body 0 0 ∷ []) ≡ true → now_of (widened_by rs (wide Body 0 0 ∷ [])) ≡ width (text_of rs)
 unfolding total text_of
 counted_width rs h = rows_total rs (wide Body 0 0 ∷ []) h ∙ zero (width (top (levels_of rs)).text) where
   zero : (n : ℕ) → max (max 0 0) n ≡ n

@@ -5,7 +5,7 @@ use Rattle.std.proofs.lemmas.Bool.{and_from}
 use Rattle.std.proofs.lemmas.List.{append-nil}
 use Rattle.ax_text.specs.Texts.{Text, Stop, Act, Ask, If, Each, Both}
 use Rattle.ax_text.specs.Prints.{Print, quiet_print, asking_print, loop_print, test_print, prints, clash, are_silent, is_apart, are_apart, is_accepted}
-use Rattle.ax_text.specs.Rows.{Row, ActRow, AskRow, IfRow, EachRow, BothRow, SecondRow, EndRow, Level, level, top, below, with_text, levels_of, text_of, Part, Yes', No', Body, One, Two, Lines, part_ok, row_ok, note, new, other, turned_lines, closed_lines, all_ok, IsAccepted}
+use Rattle.ax_text.specs.Rows.{HandlerLine, ActLine, AskLine, IfLine, EachLine, BothLine, SecondLine, EndLine, Level, level, top, below, with_text, levels_of, text_of, Part, Yes', No', Body, One, Two, Lines, part_ok, row_ok, note, new, other, turned_lines, closed_lines, all_ok, IsAccepted}
 
 abbrev pub Silent : List Print → Type 0
 Silent [] = Unit {0}
@@ -184,19 +184,19 @@ close [] ls g = tt
 close (b ∷ bs) ls g = (tt, tt, part_none b.part b.first b.this, g)
 
 -- a line that begins no block
-good_line : (rs : List Row) (bs : List Lines) (p : Print) (x : Text) → row_ok p bs ≡ true → Good (map (note p) bs) (levels_of rs) [] → (Accepted (top (levels_of rs)).text → Accepted x)
+good_line : (rs : List HandlerLine) (bs : List Lines) (p : Print) (x : Text) → row_ok p bs ≡ true → Good (map (note p) bs) (levels_of rs) [] → (Accepted (top (levels_of rs)).text → Accepted x)
     → prints x ≡ p ∷ prints (top (levels_of rs)).text → Good bs (with_text x (levels_of rs)) []
 good_line rs bs p x h g a e = enter bs (levels_of rs) (p ∷ []) x (absorb bs p (levels_of rs) [] h g) (a (top_accepted (map (note p) bs) (levels_of rs) [] g)) e
 
-good : (rs : List Row) (bs : List Lines) → all_ok rs bs ≡ true → Good bs (levels_of rs) []
+good : (rs : List HandlerLine) (bs : List Lines) → all_ok rs bs ≡ true → Good bs (levels_of rs) []
 good [] bs h = good_none bs
-good (ActRow q ∷ rs) bs h =
+good (ActLine q ∷ rs) bs h =
     let p : Print = quiet_print q in
     good_line rs bs p (Act q (top (levels_of rs)).text) (and_left (row_ok p bs) (all_ok rs (map (note p) bs)) h) (good rs (map (note p) bs) (and_right (row_ok p bs) (all_ok rs (map (note p) bs)) h)) (λ x. x) refl
-good (AskRow a ∷ rs) bs h =
+good (AskLine a ∷ rs) bs h =
     let p : Print = asking_print a in
     good_line rs bs p (Ask a (top (levels_of rs)).text) (and_left (row_ok p bs) (all_ok rs (map (note p) bs)) h) (good rs (map (note p) bs) (and_right (row_ok p bs) (all_ok rs (map (note p) bs)) h)) (λ x. x) refl
-good (IfRow e ∷ rs) bs h =
+good (IfLine e ∷ rs) bs h =
     let p : Print = test_print e in
     let ls : List Level = levels_of rs in
     let a : List Print = prints (top ls).text in
@@ -206,7 +206,7 @@ good (IfRow e ∷ rs) bs h =
     (absorb bs p (below ls) (a ++ b) (and_left (row_ok p bs) (all_ok rs (new Yes' ∷ map (note p) bs)) h) g.3)
     (g.0, g.1, top_accepted (map (note p) bs) (below ls) (a ++ b) g.3)
     (ap (λ (ps : List Print). p ∷ ps) (sym (append_assoc a b (prints (top (below ls)).text))))
-good (EachRow l ∷ rs) bs h =
+good (EachLine l ∷ rs) bs h =
     let p : Print = loop_print l in
     let ls : List Level = levels_of rs in
     let a : List Print = prints (top ls).text in
@@ -218,7 +218,7 @@ good (EachRow l ∷ rs) bs h =
     enter bs (below ls) (p ∷ a) (Each l (top ls).text (top (below ls)).text)
     (absorb bs p (below ls) a (and_left (row_ok p bs) (all_ok rs (new Body ∷ inner)) h) only)
     (g.0, top_accepted inner (below ls) a only) refl
-good (BothRow ∷ rs) bs h =
+good (BothLine ∷ rs) bs h =
     let ls : List Level = levels_of rs in
     let a : List Print = prints (top ls).text in
     let b : List Print = prints (top ls).second in
@@ -226,8 +226,8 @@ good (BothRow ∷ rs) bs h =
     enter bs (below ls) (a ++ b) (Both (top ls).text (top ls).second (top (below ls)).text) g.3
     (g.2.0, g.2.1, g.2.2, g.0, g.1, top_accepted bs (below ls) (a ++ b) g.3)
     (sym (append_assoc a b (prints (top (below ls)).text)))
-good (SecondRow ∷ rs) bs h = turn bs (levels_of rs) (good rs (turned_lines bs) h)
-good (EndRow ∷ rs) bs h = close bs (levels_of rs) (good rs (closed_lines bs) h)
+good (SecondLine ∷ rs) bs h = turn bs (levels_of rs) (good rs (turned_lines bs) h)
+good (EndLine ∷ rs) bs h = close bs (levels_of rs) (good rs (closed_lines bs) h)
 
 -- as tests
 
@@ -253,6 +253,6 @@ accepted_test (Each l a t) h = and_from (is_accepted a) _ (accepted_test a h.0) 
 accepted_test (Both a b t) h = and_from (are_silent (prints a) && are_silent (prints b)) _ (and_from (are_silent (prints a)) _ (silent_test (prints a) h.0) (silent_test (prints b) h.1))
     (and_from (are_apart (prints a) (prints b)) _ (apart_test (prints a) (prints b) h.2) (and_from (is_accepted a) _ (accepted_test a h.3) (and_from (is_accepted b) _ (accepted_test b h.4) (accepted_test t h.5))))
 
-pub accepted : (rows : List Row) → IsAccepted rows
+pub accepted : (rows : List HandlerLine) → IsAccepted rows
 unfolding text_of
 accepted rows h = accepted_test (top (levels_of rows)).text (good rows [] h)

@@ -5,7 +5,7 @@ use Rattle.std.proofs.lemmas.Bool.{and_from, and_parts, both_ways}
 use Rattle.std.proofs.lemmas.List.{append-nil}
 use Rattle.ax_text.specs.Texts.{Text, Stop, Act, Ask, If, Each, Both}
 use Rattle.ax_text.specs.Prints.{Print, quiet_print, asking_print, loop_print, test_print, prints, clash, are_silent, is_apart, are_apart, is_accepted}
-use Rattle.ax_text.specs.Rows.{Row, ActRow, AskRow, IfRow, EachRow, BothRow, SecondRow, EndRow, Level, level, top, below, with_text, levels_of, text_of, Part, Yes', No', Body, One, Two, Wide, wide, raised, closed, turned, block_width, other, has_second, may_follow, follow, Lines, part_ok, row_ok, note, new, turned_lines, all_ok, IsTested}
+use Rattle.ax_text.specs.Rows.{HandlerLine, ActLine, AskLine, IfLine, EachLine, BothLine, SecondLine, EndLine, Level, level, top, below, with_text, levels_of, text_of, Part, Yes', No', Body, One, Two, Wide, wide, raised, closed, turned, block_width, other, has_second, may_follow, follow, Lines, part_ok, row_ok, note, new, turned_lines, all_ok, IsTested}
 use Rattle.ax_text.proofs.RowsAccepted.{Silent, ApartFrom, Apart, Accepted, PartGood, Good, not_true, from_tested}
 
 -- the open blocks by their parts, seen in two ways; the handler itself is the outermost of the widths
@@ -133,35 +133,35 @@ nothing_to_come : (bs : List Lines) → NoneToCome bs []
 nothing_to_come [] = tt
 nothing_to_come (b ∷ bs) = (λ h. refl, nothing_to_come bs)
 
-coming : (rs : List Row) (ws : List Wide) (bs : List Lines) → follow rs ws ≡ true → SameParts ws bs → NoneToCome bs (levels_of rs)
+coming : (rs : List HandlerLine) (ws : List Wide) (bs : List Lines) → follow rs ws ≡ true → SameParts ws bs → NoneToCome bs (levels_of rs)
 coming [] ws bs h s = nothing_to_come bs
-coming (ActRow q ∷ rs) ws bs h s = text_none bs (levels_of rs) (Act q (top (levels_of rs)).text) (coming rs ws bs (and_parts (may_follow (ActRow q) ws) (follow rs ws) h).1 s)
-coming (AskRow a ∷ rs) ws bs h s =
-    text_none bs (levels_of rs) (Ask a (top (levels_of rs)).text) (coming rs (raised 1 ws) bs (and_parts (may_follow (AskRow a) ws) (follow rs (raised 1 ws)) h).1 (raised_parts 1 ws bs s))
-coming (IfRow e ∷ rs) ws bs h s =
+coming (ActLine q ∷ rs) ws bs h s = text_none bs (levels_of rs) (Act q (top (levels_of rs)).text) (coming rs ws bs (and_parts (may_follow (ActLine q) ws) (follow rs ws) h).1 s)
+coming (AskLine a ∷ rs) ws bs h s =
+    text_none bs (levels_of rs) (Ask a (top (levels_of rs)).text) (coming rs (raised 1 ws) bs (and_parts (may_follow (AskLine a) ws) (follow rs (raised 1 ws)) h).1 (raised_parts 1 ws bs s))
+coming (IfLine e ∷ rs) ws bs h s =
     let ls : List Level = levels_of rs in
     text_none bs (below ls) (If e (top ls).text (top ls).second (top (below ls)).text)
-    (coming rs (wide Yes' 0 0 ∷ ws) (new Yes' ∷ bs) (and_parts (may_follow (IfRow e) ws) (follow rs (wide Yes' 0 0 ∷ ws)) h).1 (opened_parts Yes' 0 0 ws bs s)).1
-coming (EachRow l ∷ rs) ws bs h s =
+    (coming rs (wide Yes' 0 0 ∷ ws) (new Yes' ∷ bs) (and_parts (may_follow (IfLine e) ws) (follow rs (wide Yes' 0 0 ∷ ws)) h).1 (opened_parts Yes' 0 0 ws bs s)).1
+coming (EachLine l ∷ rs) ws bs h s =
     let ls : List Level = levels_of rs in
     text_none bs (below ls) (Each l (top ls).text (top (below ls)).text)
-    (coming rs (wide Body 0 1 ∷ ws) (new Body ∷ bs) (and_parts (may_follow (EachRow l) ws) (follow rs (wide Body 0 1 ∷ ws)) h).1 (opened_parts Body 0 1 ws bs s)).1
-coming (BothRow ∷ rs) ws bs h s =
+    (coming rs (wide Body 0 1 ∷ ws) (new Body ∷ bs) (and_parts (may_follow (EachLine l) ws) (follow rs (wide Body 0 1 ∷ ws)) h).1 (opened_parts Body 0 1 ws bs s)).1
+coming (BothLine ∷ rs) ws bs h s =
     let ls : List Level = levels_of rs in
     text_none bs (below ls) (Both (top ls).text (top ls).second (top (below ls)).text)
-    (coming rs (wide One 0 0 ∷ ws) (new One ∷ bs) (and_parts (may_follow BothRow ws) (follow rs (wide One 0 0 ∷ ws)) h).1 (opened_parts One 0 0 ws bs s)).1
-coming (SecondRow ∷ rs) [] bs h s = absurd s
-coming (SecondRow ∷ rs) (w ∷ []) [] h s = tt
-coming (SecondRow ∷ rs) (w ∷ []) (b ∷ bs) h s = absurd s
-coming (SecondRow ∷ rs) (w ∷ v ∷ ws) [] h s = absurd s
-coming (SecondRow ∷ rs) (w ∷ v ∷ ws) (b ∷ bs) h s =
+    (coming rs (wide One 0 0 ∷ ws) (new One ∷ bs) (and_parts (may_follow BothLine ws) (follow rs (wide One 0 0 ∷ ws)) h).1 (opened_parts One 0 0 ws bs s)).1
+coming (SecondLine ∷ rs) [] bs h s = absurd s
+coming (SecondLine ∷ rs) (w ∷ []) [] h s = tt
+coming (SecondLine ∷ rs) (w ∷ []) (b ∷ bs) h s = absurd s
+coming (SecondLine ∷ rs) (w ∷ v ∷ ws) [] h s = absurd s
+coming (SecondLine ∷ rs) (w ∷ v ∷ ws) (b ∷ bs) h s =
     let x = and_parts (has_second w.part) (follow rs (turned (w ∷ v ∷ ws))) h in
     (λ n. absurd (both_ways (has_second b.part) n (ap has_second (sym s.0) ∙ x.0)), (coming rs (turned (w ∷ v ∷ ws)) (turned_lines (b ∷ bs)) x.1 (ap other s.0, s.1)).1)
-coming (EndRow ∷ rs) [] bs h s = absurd s
-coming (EndRow ∷ rs) (w ∷ []) [] h s = tt
-coming (EndRow ∷ rs) (w ∷ []) (b ∷ bs) h s = absurd s
-coming (EndRow ∷ rs) (w ∷ v ∷ ws) [] h s = absurd s
-coming (EndRow ∷ rs) (w ∷ v ∷ ws) (b ∷ bs) h s = (λ n. refl, coming rs (closed (w ∷ v ∷ ws)) bs h (raised_parts (block_width w.part w.first w.now) (v ∷ ws) bs s.1))
+coming (EndLine ∷ rs) [] bs h s = absurd s
+coming (EndLine ∷ rs) (w ∷ []) [] h s = tt
+coming (EndLine ∷ rs) (w ∷ []) (b ∷ bs) h s = absurd s
+coming (EndLine ∷ rs) (w ∷ v ∷ ws) [] h s = absurd s
+coming (EndLine ∷ rs) (w ∷ v ∷ ws) (b ∷ bs) h s = (λ n. refl, coming rs (closed (w ∷ v ∷ ws)) bs h (raised_parts (block_width w.part w.first w.now) (v ∷ ws) bs s.1))
 
 second_comes_once : (a : Part) → has_second (other a) ≡ false
 second_comes_once Yes' = refl
@@ -186,21 +186,21 @@ turns b bs ls two e g =
     let R : List Print → Type 0 = λ ps. Good bs (below ls) ps in
     (g.1, subst Accepted (sym e) tt, subst P (sym e) (part_turns b.part b.first b.this t two g.2), subst Q (sym e) (subst R (sym (append-nil t)) g.3))
 
-tested_in : (rs : List Row) (ws : List Wide) (bs : List Lines) → follow rs ws ≡ true → SameParts ws bs → Good bs (levels_of rs) [] → all_ok rs bs ≡ true
+tested_in : (rs : List HandlerLine) (ws : List Wide) (bs : List Lines) → follow rs ws ≡ true → SameParts ws bs → Good bs (levels_of rs) [] → all_ok rs bs ≡ true
 tested_in [] ws bs h s g = refl
-tested_in (ActRow q ∷ rs) ws bs h s g =
+tested_in (ActLine q ∷ rs) ws bs h s g =
     let p : Print = quiet_print q in
     let ls : List Level = levels_of rs in
     let r = release bs p ls [] (leave bs ls (p ∷ []) (Act q (top ls).text) g (λ a. a) refl) in
     and_from (row_ok p bs) (all_ok rs (map (note p) bs)) r.0
-    (tested_in rs ws (map (note p) bs) (and_parts (may_follow (ActRow q) ws) (follow rs ws) h).1 (noted_parts p ws bs s) r.1)
-tested_in (AskRow a ∷ rs) ws bs h s g =
+    (tested_in rs ws (map (note p) bs) (and_parts (may_follow (ActLine q) ws) (follow rs ws) h).1 (noted_parts p ws bs s) r.1)
+tested_in (AskLine a ∷ rs) ws bs h s g =
     let p : Print = asking_print a in
     let ls : List Level = levels_of rs in
     let r = release bs p ls [] (leave bs ls (p ∷ []) (Ask a (top ls).text) g (λ x. x) refl) in
     and_from (row_ok p bs) (all_ok rs (map (note p) bs)) r.0
-    (tested_in rs (raised 1 ws) (map (note p) bs) (and_parts (may_follow (AskRow a) ws) (follow rs (raised 1 ws)) h).1 (noted_parts p (raised 1 ws) bs (raised_parts 1 ws bs s)) r.1)
-tested_in (IfRow e ∷ rs) ws bs h s g =
+    (tested_in rs (raised 1 ws) (map (note p) bs) (and_parts (may_follow (AskLine a) ws) (follow rs (raised 1 ws)) h).1 (noted_parts p (raised 1 ws) bs (raised_parts 1 ws bs s)) r.1)
+tested_in (IfLine e ∷ rs) ws bs h s g =
     let p : Print = test_print e in
     let ls : List Level = levels_of rs in
     let a : List Print = prints (top ls).text in
@@ -210,9 +210,9 @@ tested_in (IfRow e ∷ rs) ws bs h s g =
     let r = release bs p (below ls) (a ++ b) within in
     let x = line_accepted bs t (below ls) g in
     and_from (row_ok p bs) (all_ok rs (new Yes' ∷ map (note p) bs)) r.0
-    (tested_in rs (wide Yes' 0 0 ∷ ws) (new Yes' ∷ map (note p) bs) (and_parts (may_follow (IfRow e) ws) (follow rs (wide Yes' 0 0 ∷ ws)) h).1
+    (tested_in rs (wide Yes' 0 0 ∷ ws) (new Yes' ∷ map (note p) bs) (and_parts (may_follow (IfLine e) ws) (follow rs (wide Yes' 0 0 ∷ ws)) h).1
     (opened_parts Yes' 0 0 ws (map (note p) bs) (noted_parts p ws bs s)) (x.0, x.1, tt, r.1))
-tested_in (EachRow l ∷ rs) ws bs h s g =
+tested_in (EachLine l ∷ rs) ws bs h s g =
     let p : Print = loop_print l in
     let ls : List Level = levels_of rs in
     let a : List Print = prints (top ls).text in
@@ -220,34 +220,34 @@ tested_in (EachRow l ∷ rs) ws bs h s g =
     let inner : List Lines = map (note p) bs in
     let r = release bs p (below ls) a (leave bs (below ls) (p ∷ a) t g (λ x. x.1) refl) in
     let x = line_accepted bs t (below ls) g in
-    let more : follow rs (wide Body 0 1 ∷ ws) ≡ true = (and_parts (may_follow (EachRow l) ws) (follow rs (wide Body 0 1 ∷ ws)) h).1 in
+    let more : follow rs (wide Body 0 1 ∷ ws) ≡ true = (and_parts (may_follow (EachLine l) ws) (follow rs (wide Body 0 1 ∷ ws)) h).1 in
     let parts : SameParts (wide Body 0 1 ∷ ws) (new Body ∷ inner) = opened_parts Body 0 1 ws inner (noted_parts p ws bs s) in
     let none : (top ls).second ≡ Stop = (coming rs (wide Body 0 1 ∷ ws) (new Body ∷ inner) more parts).0 refl in
     let Q : Text → Type 0 = λ y. Good inner (below ls) (a ++ prints y) in
     let R : List Print → Type 0 = λ ps. Good inner (below ls) ps in
     and_from (row_ok p bs) (all_ok rs (new Body ∷ inner)) r.0
     (tested_in rs (wide Body 0 1 ∷ ws) (new Body ∷ inner) more parts (x.0, subst Accepted (sym none) tt, tt, subst Q (sym none) (subst R (sym (append-nil a)) r.1)))
-tested_in (BothRow ∷ rs) ws bs h s g =
+tested_in (BothLine ∷ rs) ws bs h s g =
     let ls : List Level = levels_of rs in
     let a : List Print = prints (top ls).text in
     let b : List Print = prints (top ls).second in
     let t : Text = Both (top ls).text (top ls).second (top (below ls)).text in
     let x = line_accepted bs t (below ls) g in
-    tested_in rs (wide One 0 0 ∷ ws) (new One ∷ bs) (and_parts (may_follow BothRow ws) (follow rs (wide One 0 0 ∷ ws)) h).1 (opened_parts One 0 0 ws bs s)
+    tested_in rs (wide One 0 0 ∷ ws) (new One ∷ bs) (and_parts (may_follow BothLine ws) (follow rs (wide One 0 0 ∷ ws)) h).1 (opened_parts One 0 0 ws bs s)
     (x.3, x.4, (x.0, x.1, x.2), leave bs (below ls) (a ++ b) t g (λ y. y.5) (sym (append_assoc a b (prints (top (below ls)).text))))
-tested_in (SecondRow ∷ rs) [] bs h s g = absurd s
-tested_in (SecondRow ∷ rs) (w ∷ []) bs h s g = absurd (both_ways false refl h)
-tested_in (SecondRow ∷ rs) (w ∷ v ∷ ws) [] h s g = absurd s
-tested_in (SecondRow ∷ rs) (w ∷ v ∷ ws) (b ∷ bs) h s g =
+tested_in (SecondLine ∷ rs) [] bs h s g = absurd s
+tested_in (SecondLine ∷ rs) (w ∷ []) bs h s g = absurd (both_ways false refl h)
+tested_in (SecondLine ∷ rs) (w ∷ v ∷ ws) [] h s g = absurd s
+tested_in (SecondLine ∷ rs) (w ∷ v ∷ ws) (b ∷ bs) h s g =
     let x = and_parts (has_second w.part) (follow rs (turned (w ∷ v ∷ ws))) h in
     let parts : SameParts (turned (w ∷ v ∷ ws)) (turned_lines (b ∷ bs)) = (ap other s.0, s.1) in
     let none : (top (levels_of rs)).second ≡ Stop = (coming rs (turned (w ∷ v ∷ ws)) (turned_lines (b ∷ bs)) x.1 parts).0 (second_comes_once b.part) in
     tested_in rs (turned (w ∷ v ∷ ws)) (turned_lines (b ∷ bs)) x.1 parts (turns b bs (levels_of rs) (ap has_second (sym s.0) ∙ x.0) none g)
-tested_in (EndRow ∷ rs) [] bs h s g = absurd s
-tested_in (EndRow ∷ rs) (w ∷ []) bs h s g = absurd (both_ways false refl h)
-tested_in (EndRow ∷ rs) (w ∷ v ∷ ws) [] h s g = absurd s
-tested_in (EndRow ∷ rs) (w ∷ v ∷ ws) (b ∷ bs) h s g = tested_in rs (closed (w ∷ v ∷ ws)) bs h (raised_parts (block_width w.part w.first w.now) (v ∷ ws) bs s.1) g.3
+tested_in (EndLine ∷ rs) [] bs h s g = absurd s
+tested_in (EndLine ∷ rs) (w ∷ []) bs h s g = absurd (both_ways false refl h)
+tested_in (EndLine ∷ rs) (w ∷ v ∷ ws) [] h s g = absurd s
+tested_in (EndLine ∷ rs) (w ∷ v ∷ ws) (b ∷ bs) h s g = tested_in rs (closed (w ∷ v ∷ ws)) bs h (raised_parts (block_width w.part w.first w.now) (v ∷ ws) bs s.1) g.3
 
-pub tested : (rows : List Row) → IsTested rows
+pub tested : (rows : List HandlerLine) → IsTested rows
 unfolding text_of
 tested rows h a = tested_in rows (wide Body 0 0 ∷ []) [] h tt (accepted_from (top (levels_of rows)).text a)

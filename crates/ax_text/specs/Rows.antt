@@ -4,15 +4,15 @@ use Rattle.ax_text.specs.Exprs.{Expr}
 use Rattle.ax_text.specs.Texts.{Quiet, Asking, Loop, Text, Stop, Act, Ask, If, Each, Both}
 use Rattle.ax_text.specs.Prints.{Print, quiet_print, asking_print, loop_print, test_print, is_apart, is_accepted}
 
-pub data Row : Type 0 where
-  ActRow : (quiet : Quiet) → Row
-  AskRow : (asking : Asking) → Row
-  IfRow : (test : Expr) → Row
-  EachRow : (loop : Loop) → Row
-  BothRow : Row
+pub data HandlerLine : Type 0 where
+  ActLine : (quiet : Quiet) → HandlerLine
+  AskLine : (asking : Asking) → HandlerLine
+  IfLine : (test : Expr) → HandlerLine
+  EachLine : (loop : Loop) → HandlerLine
+  BothLine : HandlerLine
   -- `else`, or `with`
-  SecondRow : Row
-  EndRow : Row
+  SecondLine : HandlerLine
+  EndLine : HandlerLine
 
 -- what is left of a block's part, and the block's second part
 pub record Level : Type 0 where
@@ -33,20 +33,20 @@ below (l ∷ ls) = ls
 abbrev pub with_text : Text → List Level → List Level
 with_text t ls = level t (top ls).second ∷ below ls
 
-abbrev pub before : Row → List Level → List Level
-before (ActRow q) ls = with_text (Act q (top ls).text) ls
-before (AskRow a) ls = with_text (Ask a (top ls).text) ls
-before (IfRow e) ls = with_text (If e (top ls).text (top ls).second (top (below ls)).text) (below ls)
-before (EachRow l) ls = with_text (Each l (top ls).text (top (below ls)).text) (below ls)
-before BothRow ls = with_text (Both (top ls).text (top ls).second (top (below ls)).text) (below ls)
-before SecondRow ls = level Stop (top ls).text ∷ below ls
-before EndRow ls = level Stop Stop ∷ ls
+abbrev pub before : HandlerLine → List Level → List Level
+before (ActLine q) ls = with_text (Act q (top ls).text) ls
+before (AskLine a) ls = with_text (Ask a (top ls).text) ls
+before (IfLine e) ls = with_text (If e (top ls).text (top ls).second (top (below ls)).text) (below ls)
+before (EachLine l) ls = with_text (Each l (top ls).text (top (below ls)).text) (below ls)
+before BothLine ls = with_text (Both (top ls).text (top ls).second (top (below ls)).text) (below ls)
+before SecondLine ls = level Stop (top ls).text ∷ below ls
+before EndLine ls = level Stop Stop ∷ ls
 
-abbrev pub levels_of : List Row → List Level
+abbrev pub levels_of : List HandlerLine → List Level
 levels_of [] = []
 levels_of (r ∷ rs) = before r (levels_of rs)
 
-unfoldable pub text_of : List Row → Text
+unfoldable pub text_of : List HandlerLine → Text
 text_of rows = (top (levels_of rows)).text
 
 -- which part of which block is open
@@ -90,16 +90,16 @@ abbrev pub turned : List Wide → List Wide
 turned [] = []
 turned (b ∷ bs) = wide (other b.part) b.now 0 ∷ bs
 
-abbrev pub widened : Row → List Wide → List Wide
-widened (ActRow q) bs = bs
-widened (AskRow a) bs = raised 1 bs
-widened (IfRow e) bs = wide Yes' 0 0 ∷ bs
-widened (EachRow l) bs = wide Body 0 1 ∷ bs
-widened BothRow bs = wide One 0 0 ∷ bs
-widened SecondRow bs = turned bs
-widened EndRow bs = closed bs
+abbrev pub widened : HandlerLine → List Wide → List Wide
+widened (ActLine q) bs = bs
+widened (AskLine a) bs = raised 1 bs
+widened (IfLine e) bs = wide Yes' 0 0 ∷ bs
+widened (EachLine l) bs = wide Body 0 1 ∷ bs
+widened BothLine bs = wide One 0 0 ∷ bs
+widened SecondLine bs = turned bs
+widened EndLine bs = closed bs
 
-abbrev pub widened_by : List Row → List Wide → List Wide
+abbrev pub widened_by : List HandlerLine → List Wide → List Wide
 widened_by [] bs = bs
 widened_by (r ∷ rs) bs = widened_by rs (widened r bs)
 
@@ -120,13 +120,13 @@ can_close [] = false
 can_close (b ∷ []) = false
 can_close (b ∷ c ∷ bs) = true
 
-abbrev pub may_follow : Row → List Wide → Bool
+abbrev pub may_follow : HandlerLine → List Wide → Bool
 may_follow r [] = false
-may_follow SecondRow (b ∷ bs) = can_turn (b ∷ bs)
-may_follow EndRow (b ∷ bs) = can_close (b ∷ bs)
+may_follow SecondLine (b ∷ bs) = can_turn (b ∷ bs)
+may_follow EndLine (b ∷ bs) = can_close (b ∷ bs)
 may_follow r (b ∷ bs) = true
 
-abbrev pub follow : List Row → List Wide → Bool
+abbrev pub follow : List HandlerLine → List Wide → Bool
 follow [] bs = not (can_close bs)
 follow (r ∷ rs) bs = may_follow r bs && follow rs (widened r bs)
 
@@ -164,19 +164,19 @@ abbrev pub closed_lines : List Lines → List Lines
 closed_lines [] = []
 closed_lines (b ∷ bs) = bs
 
-abbrev pub all_ok : List Row → List Lines → Bool
+abbrev pub all_ok : List HandlerLine → List Lines → Bool
 all_ok [] bs = true
-all_ok (ActRow q ∷ rs) bs = row_ok (quiet_print q) bs && all_ok rs (map (note (quiet_print q)) bs)
-all_ok (AskRow a ∷ rs) bs = row_ok (asking_print a) bs && all_ok rs (map (note (asking_print a)) bs)
-all_ok (IfRow e ∷ rs) bs = row_ok (test_print e) bs && all_ok rs (new Yes' ∷ map (note (test_print e)) bs)
-all_ok (EachRow l ∷ rs) bs = row_ok (loop_print l) bs && all_ok rs (new Body ∷ map (note (loop_print l)) bs)
-all_ok (BothRow ∷ rs) bs = all_ok rs (new One ∷ bs)
-all_ok (SecondRow ∷ rs) bs = all_ok rs (turned_lines bs)
-all_ok (EndRow ∷ rs) bs = all_ok rs (closed_lines bs)
+all_ok (ActLine q ∷ rs) bs = row_ok (quiet_print q) bs && all_ok rs (map (note (quiet_print q)) bs)
+all_ok (AskLine a ∷ rs) bs = row_ok (asking_print a) bs && all_ok rs (map (note (asking_print a)) bs)
+all_ok (IfLine e ∷ rs) bs = row_ok (test_print e) bs && all_ok rs (new Yes' ∷ map (note (test_print e)) bs)
+all_ok (EachLine l ∷ rs) bs = row_ok (loop_print l) bs && all_ok rs (new Body ∷ map (note (loop_print l)) bs)
+all_ok (BothLine ∷ rs) bs = all_ok rs (new One ∷ bs)
+all_ok (SecondLine ∷ rs) bs = all_ok rs (turned_lines bs)
+all_ok (EndLine ∷ rs) bs = all_ok rs (closed_lines bs)
 
-abbrev pub IsAccepted : List Row → Type 0
+abbrev pub IsAccepted : List HandlerLine → Type 0
 IsAccepted rows = all_ok rows [] ≡ true → is_accepted (text_of rows) ≡ true
 
 -- and of well-formed lines only those that pass the tests
-abbrev pub IsTested : List Row → Type 0
+abbrev pub IsTested : List HandlerLine → Type 0
 IsTested rows = follow rows (wide Body 0 0 ∷ []) ≡ true → is_accepted (text_of rows) ≡ true → all_ok rows [] ≡ true

@@ -17,7 +17,7 @@ ghost use Rattle.ax_text.specs.Silent.{BeginTells, GiveTells, StepsSilently, Beg
 ghost use Rattle.ax_text.specs.Underway.{ServesAt, GivesAt, StartsUnderway, StepsUnderway, KeepsSlots, TakesLeast, BeginTakesLeast, GiveTakesLeast, IsLeastFree, SlotsRise, ArmsCommute};
 ghost use Rattle.ax_text.specs.Counts.{WaitsBySlot, BeginCounts, GiveCounts, StepCounts, LeftCounts};
 ghost use Rattle.ax_text.specs.Futures.{ComesToRun, EndsAsRun, StaysWithin, AsksAtBegin, AsksAtGive};
-ghost use Rattle.ax_text.specs.Rows.{Row, IsAccepted, IsTested, follow, widened_by, now_of, text_of, wide, Body};
+ghost use Rattle.ax_text.specs.Rows.{HandlerLine, IsAccepted, IsTested, follow, widened_by, now_of, text_of, wide, Body};
 
 /// Whatever the order in which the requests of a handler of an accepted text are served and their answers given, what was done and what is still to be done come together to what its run does.
 #[tactic(auto, using(crate::proofs::Going::comes_to_run))]
@@ -149,12 +149,12 @@ pub fn maps_stay_rising()
 /// blocks are well formed only those make one.
 #[tactic(auto, using(crate::proofs::RowsAccepted::accepted, crate::proofs::RowsTested::tested))]
 pub fn tested_lines_are_accepted()
-    ensures accepted { (rows : List Row) → IsAccepted rows }
-    ensures tested { (rows : List Row) → IsTested rows }
+    ensures accepted { (rows : List HandlerLine) → IsAccepted rows }
+    ensures tested { (rows : List HandlerLine) → IsTested rows }
 {}
 
 /// What is counted line by line is the width of the text.
 #[tactic(auto, using(crate::proofs::RowWidths::counted_width))]
 pub fn counted_width_is_the_width()
-    ensures { (rows : List Row) → follow rows (wide Body 0 0 ∷ []) ≡ true → now_of (widened_by rows (wide Body 0 0 ∷ [])) ≡ width (text_of rows) }
+    ensures { (rows : List HandlerLine) → follow rows (wide Body 0 0 ∷ []) ≡ true → now_of (widened_by rows (wide Body 0 0 ∷ [])) ≡ width (text_of rows) }
 {}

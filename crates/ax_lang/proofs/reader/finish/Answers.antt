@@ -2,7 +2,7 @@ use Rattle.std.proofs.Common.{◌≡◌, ◌∙◌, ◌≤◌, ℕ, List, [], ma
 use Rattle.std.specs.List.{list_all}
 use Rattle.ax_text.specs.declared.vocabulary.Kind.{Kind}
 use Rattle.ax_text.specs.Names.{Word, is_name, are_distinct}
-use Rattle.ax_text.specs.Rows.{Row, follow, all_ok}
+use Rattle.ax_text.specs.Rows.{HandlerLine, follow, all_ok}
 use Rattle.ax_state.specs.Decls.{kinds}
 use Rattle.ax_rules.specs.declared.tables.DeclaredState.{DeclaredState}
 use Rattle.ax_lang.specs.Forms.{shown_row}
@@ -63,28 +63,28 @@ new-requires-clause-row_arms c = (finished c.args.tables (shown_handlers c.args.
 pub new-requires-clause-timer : goal.new-requires-clause-timer
 new-requires-clause-timer c =
     let s = (finished c.args.tables (shown_handlers c.args.handlers) c.requires.clean c.requires.whole).sound in
-    subst (λ (rs : List Row). list_all (row_fits 0 c.args.tables.most (kinds c.in_ok-decls.decls)) rs ≡ true) (sym c.timer_if-timer.ensures.rows)
+    subst (λ (rs : List HandlerLine). list_all (row_fits 0 c.args.tables.most (kinds c.in_ok-decls.decls)) rs ≡ true) (sym c.timer_if-timer.ensures.rows)
     (subst (λ (ks : List Kind). list_all (row_fits 0 c.args.tables.most ks) (map shown_row c.args.handlers.timer.items) ≡ true) (sym (decl_kinds c.in_ok-decls.decls c.args.tables.states (c.in_ok-decls.ensures ∙ ap (λ (ds : List DeclaredState). map state_in ds) c.as_slice.ensures))) s.timer)
 
 pub new-requires-clause-timer_blocks : goal.new-requires-clause-timer_blocks
 new-requires-clause-timer_blocks c =
-    subst (λ (rs : List Row). follow rs begun ≡ true) (sym c.timer_if-timer.ensures.rows) (finished c.args.tables (shown_handlers c.args.handlers) c.requires.clean c.requires.whole).timer_follows
+    subst (λ (rs : List HandlerLine). follow rs begun ≡ true) (sym c.timer_if-timer.ensures.rows) (finished c.args.tables (shown_handlers c.args.handlers) c.requires.clean c.requires.whole).timer_follows
 
 pub new-requires-clause-timer_arms : goal.new-requires-clause-timer_arms
 new-requires-clause-timer_arms c =
-    subst (λ (rs : List Row). all_ok rs [] ≡ true) (sym c.timer_if-timer.ensures.rows) (finished c.args.tables (shown_handlers c.args.handlers) c.requires.clean c.requires.whole).timer_ok
+    subst (λ (rs : List HandlerLine). all_ok rs [] ≡ true) (sym c.timer_if-timer.ensures.rows) (finished c.args.tables (shown_handlers c.args.handlers) c.requires.clean c.requires.whole).timer_ok
 
 pub new-requires-clause-names : goal.new-requires-clause-names
 new-requires-clause-names c =
     let s = (finished c.args.tables (shown_handlers c.args.handlers) c.requires.clean c.requires.whole).sound in
-    subst (λ (rs : List Row). c.args.tables.most ≡ max (rows_names (map shown_row c.args.handlers.row.items)) (rows_names rs)) (sym c.timer_if-timer.ensures.rows) s.all
+    subst (λ (rs : List HandlerLine). c.args.tables.most ≡ max (rows_names (map shown_row c.args.handlers.row.items)) (rows_names rs)) (sym c.timer_if-timer.ensures.rows) s.all
 
 pub new-requires-clause-width : goal.new-requires-clause-width
 new-requires-clause-width c =
     let f = finished c.args.tables (shown_handlers c.args.handlers) c.requires.clean c.requires.whole in
     let row : ℕ = counted (map shown_row c.args.handlers.row.items) in
     let timer : ℕ = counted (map shown_row c.args.handlers.timer.items) in
-    subst (λ (rs : List Row). c.max-width.result ≡ max 1 (max row (counted rs))) (sym c.timer_if-timer.ensures.rows)
+    subst (λ (rs : List HandlerLine). c.max-width.result ≡ max 1 (max row (counted rs))) (sym c.timer_if-timer.ensures.rows)
     (c.max-width.ensures ∙ (ap (λ (n : ℕ). max n 1) f.width ∙ other_way row timer))
   where
     other_way : (m n : ℕ) → max (max m n) 1 ≡ max 1 (max m n)

@@ -1,22 +1,22 @@
 use Rattle.std.proofs.Common.{◌∙◌, ◌≤◌, ◌<◌, List, length, map, sym, ap, ap₂, subst, arith, Some, None}
 use Rattle.ax_rules.specs.Sections.{shape_in}
 use Rattle.ax_rules.proofs.SectionLemmas.{start}
-use Rattle.ax_text.specs.Rows.{Row}
-use Rattle.ax_lang.specs.declared.step.Row.{Row as CodeRow}
+use Rattle.ax_text.specs.Rows.{HandlerLine}
+use Rattle.ax_lang.specs.declared.step.HandlerLine.{HandlerLine as CodeLine}
 use Rattle.ax_lang.specs.Forms.{shown_row}
-use Rattle.ax_lang.specs.Rows.{HandlerRows}
+use Rattle.ax_lang.specs.Rows.{HandlerLines}
 use Rattle.ax_lang.specs.Programs.{Reading, Faulty, shown_handlers, IsProgram}
 use Rattle.ax_lang.proofs.FinishLemmas.{sound}
 use Rattle.ax_lang.proofs.ReadingLemmas.{taken, told, not_done, done, are_clean, by_answer}
 use Rattle.ax_lang.proofs.reader.read_program.Goals as goal
 
-abbrev handler_rows : List Row → List Row → HandlerRows
+abbrev handler_rows : List HandlerLine → List HandlerLine → HandlerLines
 handler_rows row timer = record { row = row; timer = timer }
 
 pub loop-line-init : goal.loop-line-init
 loop-line-init c = record {
   on = start c.args.lines.now c.args.end c.new-tables.result c.new-tables.ensures;
-  made = ap₂ (λ (row timer : List CodeRow). handler_rows (map shown_row row) (map shown_row timer)) c.new.ensures.items c.new-2.ensures.items;
+  made = ap₂ (λ (row timer : List CodeLine). handler_rows (map shown_row row) (map shown_row timer)) c.new.ensures.items c.new-2.ensures.items;
   clean = tt;
 }
 
