@@ -13,7 +13,8 @@ pub use ax_words::{Options, WordFault, read_words};
 pub use fault_line::write_fault_line;
 pub use laws::{
     input_faults_end_the_events, ok_runs_wrote_a_lawful_list, program_faults_wrote_nothing,
-    runs_without_faults_end_as_the_bytes_say,
+    read_faults_wrote_a_lawful_list, runs_without_faults_end_as_the_bytes_say,
+    write_faults_wrote_a_part,
 };
 pub use program::run_program;
 pub use run::run_alone;
