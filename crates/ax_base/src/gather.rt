@@ -47,7 +47,7 @@ impl Model for Room {
 }
 
 impl Room {
-    /// A room that holds nothing.
+    /// A room that holds nothing. It takes its memory here, and `NoMemory` is its only fault.
     pub fn new(alloc: Global) -> Result<Room, NoMemory>
         ensures { IfOk result (λ r. r ≡ []) }
     {

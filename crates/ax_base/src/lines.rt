@@ -16,7 +16,7 @@ use std::marker::Model;
 use thiserror::Error;
 
 /// A line.
-#[derive(Debug, Drop)]
+#[derive(Debug, PartialEq, Eq, Drop)]
 pub struct Line {
     /// Its number, from 1 on and below `2^63`.
     pub number: u64,

@@ -124,7 +124,7 @@ impl<T: Drop> ListOf<T> {
 }
 
 impl<T: Copy> ListOf<T> {
-    /// A list of copies of these elements.
+    /// A list of copies of these elements. `NoMemory` is its only fault.
     pub fn from_slice(alloc: Global, items: &[T]) -> Result<ListOf<T>, NoMemory>
         ensures { IfOk result (λ list. list ≡ items.now) }
     {

@@ -13,7 +13,7 @@ use std::alloc::Global;
 use thiserror::Error;
 
 /// An event.
-#[derive(Debug, Drop)]
+#[derive(Debug, PartialEq, Eq, Drop)]
 pub enum Event {
     /// A row of a key, with as many values as the program's rows have, at most 16.
     Row { key: Key, time: i64, values: Nums },
@@ -166,7 +166,7 @@ pub fn read_event(alloc: Global, text: &[u8], fields: u8) -> Result<Event, Event
 }
 
 /// The event of a line, and `None` exactly where the line is blank or a comment: `is_skipped` and `read_event` in one, which looks at
-/// the line's first word once.
+/// the line's first word once. `NoMemory` comes for want of memory alone, any other fault is the line's own.
 #[tactic(auto, unfolding(crate::specs::Events::event_of))]
 pub fn read_line(alloc: Global, text: &[u8], fields: u8) -> Result<Option<Event>, EventFault>
     ensures { ReadsLine (is_skipped text.now) (event_of fields text.now) result }

@@ -3,7 +3,7 @@ use ax_base::{Bytes, Nums};
 use ax_keys::Key;
 
 /// A line of a snapshot block. A state is named by its name in the program.
-#[derive(Debug, Drop)]
+#[derive(Debug, PartialEq, Eq, Drop)]
 pub enum SnapLine {
     /// `s ID WM`: the head of the block of a barrier, with the greatest watermark so far.
     Head {
@@ -43,7 +43,7 @@ pub enum SnapLine {
 
 /// A line of an output. It has a spelling, and is read back, where an `Out` has 1 to 16 values, a state's name is a name
 /// of the language, and a count is at most `2^63 - 1`.
-#[derive(Debug, Drop)]
+#[derive(Debug, PartialEq, Eq, Drop)]
 pub enum OutLine {
     /// `o KEY N1 .. Nn`: an emit.
     Out { key: Key, values: Nums },

@@ -29,11 +29,6 @@ index_below g m p some parts small =
     let up : (g + 1) * p ≤ m * p = mul-le (g + 1) p m p (omega arith) (omega arith) in
     div_below (g * p) m p (omega arith) (omega arith)
 
-pub last_below : (i m p : ℕ) → 1 ≤ m → 1 ≤ p → i < p → last_of_index i m p < m
-last_below i m p some parts small =
-    let up : (i + 1) * m ≤ p * m = mul-le (i + 1) m p m (omega arith) (omega arith) in
-    div_below ((i + 1) * m - 1) p m (omega arith) (omega arith)
-
 pub first_to_last : (i m p : ℕ) → 1 ≤ p → p ≤ m → first_of_index i m p ≤ last_of_index i m p
 first_to_last i m p parts most =
     let less : (i * m + p - 1) / p * p ≤ i * m + p - 1 = div-mul-le_self (i * m + p - 1) p in

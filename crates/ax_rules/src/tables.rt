@@ -4,7 +4,7 @@ use ax_base::{Bytes, ListOf};
 use ax_syntax::KindWord;
 
 /// A declared state.
-#[derive(Debug, Drop)]
+#[derive(Debug, PartialEq, Eq, Drop)]
 pub struct DeclaredState {
     pub name: Bytes,
     pub kind: KindWord,

@@ -1,5 +1,5 @@
 -- Line behind line.
-use Rattle.std.proofs.Common.{◌≡◌, refl, sym, ap, ◌∙◌, ℕ, ◌+◌, ◌<◌, ◌≤◌, List, [], ◌∷◌, ◌++◌, length, length-append, append_assoc, arith}
+use Rattle.std.proofs.Common.{◌≡◌, sym, ap, ◌∙◌, ℕ, ◌+◌, ◌<◌, ◌≤◌, List, [], ◌∷◌, ◌++◌, length, length-append, append_assoc, arith}
 use Rattle.std.proofs.lemmas.List.{append-nil}
 use Rattle.ax_machine.proofs.TextLemmas.{lines_text-append}
 use Rattle.ax_machine.specs.OutLines.{OutLine, line_of, spelled, lines_text}
@@ -13,9 +13,6 @@ has_room text l count h = omega (arith, length-append text (spelled l), length-a
 pub record GoesOn (start now : Put) (whole rest : List OutLine) : Type 0 where
   pub text : now.text ++ lines_text rest ≡ start.text ++ lines_text whole
   pub count : now.count + length rest ≡ start.count + length whole
-
-pub goes_begin : (b : Put) (whole : List OutLine) → GoesOn b b whole whole
-goes_begin b whole = record { text = refl; count = refl }
 
 pub goes_step : (start now next : Put) (whole xs rest : List OutLine) → GoesOn start now whole (xs ++ rest) → Adds now next xs → GoesOn start next whole rest
 goes_step start now next whole xs rest g a =
@@ -40,7 +37,3 @@ adds_both a b c xs ys p q =
       text = q.text ∙ ap (λ t. t ++ lines_text ys) p.text ∙ append_assoc a.text (lines_text xs) (lines_text ys) ∙ ap (λ t. a.text ++ t) (sym (lines_text-append xs ys));
       count = omega arith;
     }
-
--- one line
-pub adds_one : (old new : Put) (l : OutLine) → new.text ≡ old.text ++ spelled l → new.count ≡ old.count + 1 → Adds old new (l ∷ [])
-adds_one old new l text count = record { text = text ∙ ap (λ t. old.text ++ t) (sym (append-nil (spelled l))); count = count }

@@ -1,18 +1,18 @@
 -- The lines of one state.
-use Rattle.std.proofs.Common.{◌≡◌, refl, sym, ap, ◌∙◌, ℕ, zero, suc, ◌+◌, ◌<◌, ℤ, List, [], ◌∷◌, ◌++◌, map, drop, length, true, nat_lt, get_or, arith, subst, None}
-use Rattle.std.proofs.lemmas.Bool.{and_parts, and_from, lt-ltb, false≢true}
-use Rattle.std.proofs.lemmas.List.{length-map, drop_more}
+use Rattle.std.proofs.Common.{◌≡◌, refl, sym, ap, ◌∙◌, ℕ, ◌+◌, ◌<◌, ℤ, List, [], ◌∷◌, ◌++◌, map, drop, length, true, nat_lt, get_or, subst, None}
+use Rattle.std.proofs.lemmas.Bool.{and_parts, false≢true}
+use Rattle.std.proofs.lemmas.List.{drop_more}
 use Rattle.std.proofs.Math.ListN.{get_or-map}
 use Rattle.ax_text.specs.declared.vocabulary.Kind.{Kind}
 use Rattle.ax_text.specs.declared.vocabulary.Kind.TheVariants as kind
-use Rattle.ax_text.specs.Cells.{Cell, Value, Items, Entries, kind_of, number_in, items_in, entries_in, pair_of}
+use Rattle.ax_text.specs.Cells.{Cell, Value, Items, Entries, kind_of, entries_in, pair_of}
 use Rattle.ax_text.specs.Valid.{same_kind, has_kind}
 use Rattle.ax_state.specs.declared.decls.Decl.{Decl}
-use Rattle.ax_state.specs.Decls.{kinds, shown_states}
+use Rattle.ax_state.specs.Decls.{shown_states}
 use Rattle.ax_state.specs.KeyCells.{shown_cells, cell_kinds}
 use Rattle.ax_machine.specs.Entries.{Key}
 use Rattle.ax_machine.specs.OutLines.{OutLine, Entry}
-use Rattle.ax_machine.specs.Blocks.{value_lines, item_lines, entry_lines, cell_lines, state_lines}
+use Rattle.ax_machine.specs.Blocks.{entry_lines, cell_lines, state_lines}
 use Rattle.ax_snapshot.specs.Snaps.{pair_lines}
 use Rattle.ax_snapshot.specs.Added.{Put, Adds}
 use Rattle.ax_snapshot.proofs.AddedLemmas.{GoesOn, goes_step}
@@ -32,52 +32,18 @@ same_is kind.List kind.Map h = absurd (false≢true h)
 same_is kind.Map kind.Value h = absurd (false≢true h)
 same_is kind.Map kind.List h = absurd (false≢true h)
 
-same_itself : (k : Kind) → same_kind k k ≡ true
-same_itself kind.Value = refl
-same_itself kind.List = refl
-same_itself kind.Map = refl
-
 -- a state of this kind holds what states of it hold
 pub is_of_kind : (cells : List Cell) (s : ℕ) (k : Kind) → has_kind (cell_kinds cells) s k ≡ true → kind_of (shown_cells cells s) ≡ k
 is_of_kind cells s k h =
     sym (get_or-map kind_of cells s (Value None)) ∙ same_is (get_or (cell_kinds cells) s kind.Value) k (and_parts (nat_lt s (length (cell_kinds cells))) (same_kind (get_or (cell_kinds cells) s kind.Value) k) h).1
-
-value_kind : (k : Key) (name : List ℕ) (c : Cell) → kind_of c ≡ kind.Value → cell_lines k name c ≡ value_lines k name (number_in c)
-value_kind k name (Value number) h = refl
-value_kind k name (Items items) h = absurd (cc)
-value_kind k name (Entries entries) h = absurd (cc)
-
-list_kind : (k : Key) (name : List ℕ) (c : Cell) → kind_of c ≡ kind.List → cell_lines k name c ≡ item_lines k name (items_in c)
-list_kind k name (Value number) h = absurd (cc)
-list_kind k name (Items items) h = refl
-list_kind k name (Entries entries) h = absurd (cc)
 
 map_kind : (k : Key) (name : List ℕ) (c : Cell) → kind_of c ≡ kind.Map → cell_lines k name c ≡ entry_lines k name (entries_in c)
 map_kind k name (Value number) h = absurd (cc)
 map_kind k name (Items items) h = absurd (cc)
 map_kind k name (Entries entries) h = refl
 
-pub lines_of_value : (k : Key) (name : List ℕ) (cells : List Cell) (s : ℕ) → has_kind (cell_kinds cells) s kind.Value ≡ true → value_lines k name (number_in (shown_cells cells s)) ≡ cell_lines k name (shown_cells cells s)
-lines_of_value k name cells s h = sym (value_kind k name (shown_cells cells s) (is_of_kind cells s kind.Value h))
-
-pub lines_of_list : (k : Key) (name : List ℕ) (cells : List Cell) (s : ℕ) → has_kind (cell_kinds cells) s kind.List ≡ true → item_lines k name (items_in (shown_cells cells s)) ≡ cell_lines k name (shown_cells cells s)
-lines_of_list k name cells s h = sym (list_kind k name (shown_cells cells s) (is_of_kind cells s kind.List h))
-
 pub lines_of_map : (k : Key) (name : List ℕ) (cells : List Cell) (s : ℕ) → has_kind (cell_kinds cells) s kind.Map ≡ true → pair_lines k name (map pair_of (entries_in (shown_cells cells s))) ≡ cell_lines k name (shown_cells cells s)
 lines_of_map k name cells s h = pair_lines-map k name (entries_in (shown_cells cells s)) ∙ sym (map_kind k name (shown_cells cells s) (is_of_kind cells s kind.Map h))
-
--- the states of a key have the kinds of their declarations
-pub declared_kind : (cells : List Cell) (decls : List Decl) (s : ℕ) (d e : Decl) → cell_kinds cells ≡ kinds decls → s < length decls → d ≡ get_or decls s e → has_kind (cell_kinds cells) s d.kind ≡ true
-declared_kind cells decls s d e f h g =
-    subst (λ (ks : List Kind). has_kind ks s d.kind ≡ true) (sym f)
-    (and_from (nat_lt s (length (kinds decls))) (same_kind (get_or (kinds decls) s kind.Value) d.kind)
-    (lt-ltb s (length (kinds decls)) (omega (arith, length-map decls (λ (x : Decl). x.kind))))
-    (subst (λ (k : Kind). same_kind k d.kind ≡ true) (at s decls h g) (same_itself d.kind)))
-  where
-    at : (i : ℕ) (ds : List Decl) → i < length ds → d ≡ get_or ds i e → d.kind ≡ get_or (kinds ds) i kind.Value
-    at i [] h g = absurd (omega arith)
-    at zero (x ∷ xs) h g = ap (λ (y : Decl). y.kind) g
-    at (suc i) (x ∷ xs) h g = at i xs (omega arith) g
 
 -- one state on
 pub states_step : (k : Key) (cells : List Cell) (decls : List Decl) (i n : ℕ) (d : Decl) (start now next : Put) (whole : List OutLine) → i < length decls → d ≡ get_or decls i d → n ≡ i

@@ -1,6 +1,6 @@
 -- The states of one key, as a list of cells and as a function.
-use Rattle.std.proofs.Common.{◌≡◌, ℕ, cond, subst, ◌<◌, ◌≤◌, ◌⊎◌, inl, inr, List, [], ◌∷◌, map, length, Bool, true, false, nat_eq, nat_lt, None, All, get_or, refl, sym, ap, ap₂, ◌∙◌, arith, slice_set, zero, suc}
-use Rattle.std.proofs.lemmas.Bool.{eqb-true, eqb-false, ltb-true, and_parts, cases_lt}
+use Rattle.std.proofs.Common.{◌≡◌, ℕ, cond, subst, ◌<◌, ◌⊎◌, inl, inr, List, [], ◌∷◌, map, length, Bool, true, false, nat_eq, nat_lt, None, All, get_or, refl, sym, ap, ap₂, ◌∙◌, arith, slice_set, zero, suc}
+use Rattle.std.proofs.lemmas.Bool.{eqb-true, eqb-false, ltb-true, and_parts}
 use Rattle.std.proofs.lemmas.List.{get_or-set_same, get_or-set_other, length-map, map-set}
 use Rattle.std.proofs.lemmas.List as lemma
 use Rattle.std.proofs.lemmas.List.Elements.{All-map}
@@ -12,28 +12,17 @@ use Rattle.ax_text.specs.declared.vocabulary.Kind.TheVariants as kind
 use Rattle.ax_text.specs.declared.vocabulary.Request.{Request}
 use Rattle.ax_text.specs.Functions.{upd}
 use Rattle.ax_text.specs.Cells.{Cell, Value, kind_of, empty_cell, entries_in, cells_after, cell_after, state_of, serves}
-use Rattle.ax_text.specs.Programs.{untouched, kinds_of}
+use Rattle.ax_text.specs.Programs.{untouched}
 use Rattle.ax_text.specs.Rising.{IsRising, MapsRise}
 use Rattle.ax_text.proofs.RisingKept.{untouched_rise, requests_keep}
-use Rattle.ax_state.specs.declared.decls.Decl.{Decl}
 use Rattle.ax_state.specs.declared.cells.Held.{Held}
 use Rattle.ax_state.specs.Held.{shown_cell}
-use Rattle.ax_state.specs.Decls.{shown_states, kinds}
 use Rattle.ax_state.specs.Fits.{fits_in}
 use Rattle.ax_state.specs.KeyCells.{shown_cells, cell_kinds, IsEmptyCell}
 
 -- what a request leaves, as one function where it agrees at each state
 pub cells_are : (r : Request) (old new : List Cell) → ((s : ℕ) → shown_cells new s ≡ cells_after r (shown_cells old) s) → shown_cells new ≡ cells_after r (shown_cells old)
 cells_are r old new f = fun_ext f
-
--- likewise for a key that was never touched
-pub cells_untouched : (ks : List Kind) (cells : List Cell) → ((s : ℕ) → shown_cells cells s ≡ untouched ks s) → shown_cells cells ≡ untouched ks
-cells_untouched ks cells f = fun_ext f
-
--- the kinds of the declared states, as a program has them
-pub kinds_of-states : (decls : List Decl) → kinds_of (shown_states decls) ≡ kinds decls
-kinds_of-states [] = refl
-kinds_of-states (d ∷ ds) = ap (λ ks. d.kind ∷ ks) (kinds_of-states ds)
 
 pub kind_of-empty : (k : Kind) → kind_of (empty_cell k) ≡ k
 kind_of-empty kind.Value = refl
@@ -54,13 +43,6 @@ all_empty ks = All-map IsEmptyCell empty_cell ks (λ k d h. is_empty (get_or ks 
 
 pub shown_cells-empty : (ks : List Kind) (s : ℕ) → shown_cells (map empty_cell ks) s ≡ untouched ks s
 shown_cells-empty ks s = get_or-map empty_cell ks s kind.Value
-
--- states that are all empty are those of a key that was never touched
-pub all_untouched : (cells : List Cell) → All IsEmptyCell cells → (s : ℕ) → shown_cells cells s ≡ untouched (cell_kinds cells) s
-all_untouched cells a s = is_empty_at (cases_lt s (length cells)) ∙ ap empty_cell (sym (get_or-map kind_of cells s (Value None))) where
-  is_empty_at : (s < length cells) ⊎ (length cells ≤ s) → IsEmptyCell (shown_cells cells s)
-  is_empty_at (inl h) = a s (Value None) h
-  is_empty_at (inr h) = subst IsEmptyCell (sym (lemma.get_or_past cells s (Value None) h)) refl
 
 -- a state that serves a request is there, and holds what serves it
 pub is_there : (cells : List Cell) (r : Request) → fits_in (cell_kinds cells) r ≡ true → state_of r < length cells

@@ -53,7 +53,7 @@ impl Model for KeyCells {
 }
 
 impl KeyCells {
-    /// The states of a key that was never touched: all empty.
+    /// The states of a key that was never touched: all empty. `NoMemory` is its only fault.
     pub fn new(alloc: Global, decls: &Decls) -> Result<KeyCells, NoMemory>
         ensures kinds { IfOk result (λ cells. cell_kinds cells ≡ kinds decls.now) }
         ensures empty { IfOk result (λ cells. All IsEmptyCell cells) }

@@ -5,7 +5,7 @@ use ax_base::{Bytes, Duplicate, ListOf, NoMemory};
 use std::alloc::Global;
 
 /// A key and its value.
-#[derive(Debug, Drop)]
+#[derive(Debug, PartialEq, Eq, Drop)]
 pub struct Cell {
     pub key: Bytes,
     pub value: Bytes,

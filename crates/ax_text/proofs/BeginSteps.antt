@@ -1,5 +1,5 @@
 -- What each statement does to a cursor that begins: what a loop over a stack of frames needs.
-use Rattle.std.proofs.Common.{◌≡◌, ◌∙◌, ℕ, pos, ◌+◌, ◌*◌, ◌<◌, length, List, [], ◌∷◌, ◌++◌, true, false, refl, ap, arith}
+use Rattle.std.proofs.Common.{◌≡◌, ◌∙◌, ℕ, pos, ◌+◌, ◌*◌, length, List, [], ◌∷◌, ◌++◌, true, false, refl, ap}
 use Rattle.std.specs.Ordering.{int_eq}
 use Rattle.ax_base.specs.declared.lists.Pair.{Pair}
 use Rattle.ax_text.specs.Exprs.{Facts, Expr, value}
@@ -63,6 +63,3 @@ frame_size (Turns l ps body) = 1 + length ps * (1 + size body)
 abbrev pub sizes : Cursor → ℕ
 sizes [] = 0
 sizes (x ∷ k) = frame_size x + sizes k
-
-pub turn_less : (l : Loop) (p : Pair) (ps : List Pair) (body : Text) (k : Cursor) → sizes (Rest body ∷ Turns l ps body ∷ k) < sizes (Turns l (p ∷ ps) body ∷ k)
-turn_less l p ps body k = omega arith

@@ -55,10 +55,6 @@ not_true false h = refl
 
 -- lists of lines
 
-silent_front : (xs ys : List Print) → Silent (xs ++ ys) → Silent xs
-silent_front [] ys s = tt
-silent_front (x ∷ xs) ys s = (s.0, silent_front xs ys s.1)
-
 silent_skip : (xs ys zs : List Print) → Silent ((xs ++ ys) ++ zs) → Silent (xs ++ zs)
 silent_skip [] [] zs s = s
 silent_skip [] (y ∷ ys) zs s = silent_skip [] ys zs s.1
@@ -146,9 +142,6 @@ weaken (b ∷ bs) ls xs ys zs g =
     )
 
 -- at the end, or behind a part
-
-apart_none : (ps : List Print) → Apart ps []
-apart_none ps = tt
 
 part_none : (a : Part) (first this : List Print) → PartGood a first this [] []
 part_none Yes' first this = tt

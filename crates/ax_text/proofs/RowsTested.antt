@@ -121,10 +121,6 @@ opened_parts : (a : Part) (first now : ℕ) (ws : List Wide) (bs : List Lines) �
 opened_parts a first now [] bs s = absurd s
 opened_parts a first now (w ∷ ws) bs s = (refl, s)
 
-noted_none : (p : Print) (bs : List Lines) (ls : List Level) → NoneToCome (map (note p) bs) ls → NoneToCome bs ls
-noted_none p [] ls n = tt
-noted_none p (b ∷ bs) ls n = (n.0, noted_none p bs (below ls) n.1)
-
 text_none : (bs : List Lines) (ls : List Level) (x : Text) → NoneToCome bs ls → NoneToCome bs (with_text x ls)
 text_none [] ls x n = tt
 text_none (b ∷ bs) ls x n = n

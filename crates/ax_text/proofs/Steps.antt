@@ -101,9 +101,6 @@ without_keeps s (x ∷ xs) j m h = of (nat_eq s x) refl (without_keeps s xs j)
         (λ v. ih (rw v at m) h)
     of false e ih = by_cases (nat_eq j x) (λ v. rw v refl) (λ v. rw v (ih (rw v at m) h))
 
-unmem : (s : ℕ) (xs ys : List ℕ) → (has s xs ≡ true → has s ys ≡ false) → has s ys ≡ true → has s xs ≡ false
-unmem s xs ys h e = by_cases (has s xs) (λ x. absurd (both_ways (has s ys) (h x) e)) (λ x. x)
-
 one_slot : (s f : ℕ) (used : List ℕ) → has f used ≡ false → has s (f ∷ []) ≡ true → has s used ≡ false
 one_slot s f used h e = by_cases (nat_eq s f)
     (λ x. subst (λ (i : ℕ). has i used ≡ false) (sym (eqb-true s f x)) h)

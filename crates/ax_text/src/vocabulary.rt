@@ -53,19 +53,30 @@ pub enum Kind {
     Map,
 }
 
-/// What stands between two operands of an expression.
+/// What stands between two operands of an expression. A comparison gives 1 where it holds, and else 0.
 #[derive(Clone, Copy, Debug, PartialEq, Eq)]
 pub enum Op {
+    /// `<`
     Less,
+    /// `<=`
     AtMost,
+    /// `==`
     Equal,
+    /// `!=`
     Differs,
+    /// `>=`
     AtLeast,
+    /// `>`
     Greater,
+    /// `+`: the sum, which wraps at 64 bits.
     Add,
+    /// `-`: the left side less the right side, which wraps at 64 bits.
     Subtract,
+    /// `*`: the product, which wraps at 64 bits.
     Multiply,
+    /// `/`: the quotient, rounded toward 0. By 0 it is 0, and the least number divided by -1 is itself.
     Divide,
+    /// `%`: the remainder, with the sign of the left side. By 0 it is 0.
     Remainder,
 }
 

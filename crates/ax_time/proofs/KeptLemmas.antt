@@ -1,5 +1,5 @@
 -- The timers of all keys, by key and by time.
-use Rattle.std.proofs.Common.{◌≡◌, ◌∙◌, ℕ, zero, suc, ℤ, Bool, true, false, cond, ◌&&◌, ◌⊎◌, inl, inr, List, [], ◌∷◌, ◌++◌, map, length, Option, None, Some, Result, Ok, Err, IfOk, IfNone, IfSome, refl, sym, ap, subst, arith}
+use Rattle.std.proofs.Common.{◌≡◌, ◌∙◌, ℕ, zero, suc, ℤ, Bool, true, false, cond, ◌&&◌, List, [], ◌∷◌, ◌++◌, map, length, Option, None, Some, Result, Ok, Err, IfOk, IfNone, IfSome, refl, sym, ap, subst}
 use Rattle.std.proofs.lemmas.Bool.{true≢false}
 use Rattle.std.proofs.lemmas.Map.{lookup-none}
 use Rattle.std.proofs.lemmas.Map.Entries.{none_past_head}
@@ -18,18 +18,18 @@ use Rattle.std.specs.declared.cmp.Ordering.TheVariants.{Less, Equal, Greater}
 use Rattle.std.specs.Str.{bytes_eq}
 use Rattle.std.specs.BTreeMap.{is_at, get, insert_entry}
 use Rattle.std.specs.BTreeMap as tree
-use Rattle.std.specs.BTreeSet.{BTreeSet, insert_key, contains}
+use Rattle.std.specs.BTreeSet.{insert_key, contains}
 use Rattle.std.specs.BTreeSet as sorted
 use Rattle.std.specs.Map.{lookup, keys_of, set_value}
 use Rattle.std.specs.Set.{remove_key}
 use Rattle.ax_time.specs.declared.timer.Timer.{Timer}
 use Rattle.ax_time.specs.declared.held.Held.{Held}
 use Rattle.ax_time.specs.declared.kept.Kept.{Kept}
-use Rattle.ax_text.specs.Times.{insert_time, remove_time, least_time, later_times}
+use Rattle.ax_text.specs.Times.{insert_time, remove_time}
 use Rattle.ax_keys.specs.Keys.{key_cmp}
 use Rattle.ax_time.specs.Timers.{times_of, PutsTimes, listed_cmp}
 use Rattle.ax_time.specs.Held.{ByKey, Due, due_order, Makes, MakesTime, times_or, kept_times, number_or, Rises, has_at, timers_at, listed, shown_timers, Agree}
-use Rattle.ax_time.proofs.SetLemmas.{removed_filter, inserted_again}
+use Rattle.ax_time.proofs.SetLemmas.{removed_filter}
 
 pub if_ok : {T E : Type 0} {P Q : T → Type 0} (r : Result T E) → ((x : T) → P x → Q x) → IfOk r P → IfOk r Q
 if_ok (Ok x) f p = f x p
@@ -172,13 +172,6 @@ put_seen a h n s k old new was holds f e q =
     go true false g = absurd (true≢false g)
     go false true g = absurd (true≢false (sym g))
     go false false g = times_seen a h q
-
--- the times without the least of them are the later ones
-pub later_left : (xs : List ℤ) (t : ℤ) → IsStrictlySortedBy int_cmp xs → Some t ≡ least_time xs → remove_time t xs ≡ later_times xs
-later_left [] t s e = refl
-later_left (x ∷ xs) t s e =
-    let same : t ≡ x = cc in
-    sym (removed_time t (x ∷ xs) s) ∙ ap (λ p. cond p xs (x ∷ remove_key (is_at (int_cmp t)) xs)) (ap (λ y. is_at (int_cmp y) x) same ∙ ap is_eq (tied_itself int_cmp_total x))
 
 -- the entries stay where what was found is written back
 pub back_same : (m n : ByKey) (k : List ℕ) (old new : Held) → n.entries ≡ set_value (is_at (key_cmp k)) m.entries new → new ≡ old → Some old ≡ get key_cmp m k → listed n.entries ≡ listed m.entries

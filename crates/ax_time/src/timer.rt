@@ -4,7 +4,7 @@ use ax_keys::Key;
 use std::alloc::Global;
 
 /// A timer of a key: the event time at which it is due.
-#[derive(Debug, Drop)]
+#[derive(Debug, PartialEq, Eq, Drop)]
 pub struct Timer {
     pub key: Key,
     pub time: i64,

@@ -102,7 +102,7 @@ impl Timers {
         self.kept.take_least(key)
     }
 
-    /// The times of a key's timers, rising.
+    /// The times of a key's timers, rising. `NoMemory` is its only fault, and the timers stand as before.
     pub fn times_of(&self, alloc: Global, key: &Key) -> Result<Nums, NoMemory>
         ensures times { IfOk result (λ times. times ≡ times_of self.now key.now) }
         ensures rising { IfOk result (λ times. IsStrictlySortedBy int_cmp times) }
@@ -113,7 +113,7 @@ impl Timers {
         }
     }
 
-    /// All timers, by key and then by time.
+    /// All timers, by key and then by time. `NoMemory` is its only fault, and the timers stand as before.
     pub fn all(&self, alloc: Global) -> Result<TimerList, NoMemory>
         ensures timers { IfOk result (λ timers. timers ≡ self.now) }
         ensures rising { IfOk result (λ timers. IsStrictlySortedBy listed_cmp timers) }
@@ -122,6 +122,7 @@ impl Timers {
     }
 
     /// The keys with a timer at or below a watermark, rising by their bytes, each once. Takes time by the timers that are due.
+    /// `NoMemory` is its only fault, and the timers stand as before.
     pub fn due_keys(&self, alloc: Global, w: i64) -> Result<Keys, NoMemory>
         ensures due { IfOk result (λ keys. (q : List ℕ) → Contains keys q ↔ HasDue w (times_of self.now q)) }
         ensures rising { IfOk result (λ keys. IsStrictlySortedBy key_cmp keys) }
