@@ -16,6 +16,7 @@ use Rattle.ax_core.specs.May.{may_fire, has_mail}
 use Rattle.ax_core.specs.Epochs.{closing_of}
 use Rattle.ax_core.specs.Sound.{StandsFor}
 use Rattle.ax_core.specs.Events.{Makes, Sends}
+use Rattle.ax_core.specs.Numbers.{NoneNumbered}
 use Rattle.ax_core.specs.Order.{Posts, IdleBehind, idle_in}
 use Rattle.ax_task.specs.Shards.{Serving}
 use Rattle.ax_task.specs.Engines.{ShardsStay, IsBlockOf, IsMarkerText, WroteMarker, WritesPart}
@@ -26,9 +27,9 @@ use Rattle.ax_task.proofs.EngineLemmas.{true_false}
 
 -- an epoch was closed
 pub close_has : {E : Type 0} (e e' : Engine) → ShardsStay e e' → (k : Marker) (r : Result (Unit {0}) E) → OnOk r (Posts e.core e'.core []) → OnOk r ((m : MachineControl) → StandsFor e.core m → IdleBehind e.core e'.core k m)
-    → OnOk r ((m : MachineControl) → StandsFor e.core m → Makes e.core e'.core (Close (closing_of k)) m) → OnOk r (HasClosed e e' k)
-close_has e e' d k (Ok x) order idle event = record { event = event; order = order; idle = idle; shards = d }
-close_has e e' d k (Err x) order idle event = tt
+    → OnOk r (NoneNumbered e.core e'.core) → OnOk r ((m : MachineControl) → StandsFor e.core m → Makes e.core e'.core (Close (closing_of k)) m) → OnOk r (HasClosed e e' k)
+close_has e e' d k (Ok x) order idle numbers event = record { event = event; order = order; idle = idle; numbers = numbers; shards = d }
+close_has e e' d k (Err x) order idle numbers event = tt
 
 -- the text of a marker is told by controller, settings and shards
 pub block_as : (e e' : Engine) → ShardsStay e e' → e'.core ≡ e.core → (id : _) (text : List ℕ) → IsBlockOf e id text → IsBlockOf e' id text
@@ -44,30 +45,32 @@ text_as e e' d core (marker.Mark time) text x = x
 text_as e e' d core (marker.Barrier id) text x = block_as e e' d core id text x
 
 -- a marker was sent; `a` is the controller behind that
-pub sends_through : (e e' : Engine) (a : Controller) → ShardsStay e e' → e'.core ≡ a → (k : Marker) → ((m : MachineControl) → StandsFor e.core m → Sends e.core a k m) → Posts e.core a [] → idle_in a ≡ idle_in e.core
+pub sends_through : (e e' : Engine) (a : Controller) → ShardsStay e e' → e'.core ≡ a → (k : Marker) → ((m : MachineControl) → StandsFor e.core m → Sends e.core a k m) → Posts e.core a [] → idle_in a ≡ idle_in e.core → NoneNumbered e.core a
     → (o o' : Output) → WroteMarker (record e { core = a }) k (text_in o) (text_in o') → o'.gathered ≡ [] → SendsThrough e e' o o'
-sends_through e e' a d core k event order idle o o' w flushed = record {
+sends_through e e' a d core k event order idle numbers o o' w flushed = record {
   marker = k;
   finished = λ m h. (event m h).made.allowed.1;
   sent = record {
     event = λ m h. subst (λ (b : Controller). Sends e.core b k m) (sym core) (event m h);
     order = subst (λ (b : Controller). Posts e.core b []) (sym core) order;
     idle = ap idle_in core ∙ idle;
+    numbers = subst (λ (b : Controller). NoneNumbered e.core b) (sym core) numbers;
     shards = d;
   };
   writes = (record { text = w.text; is = text_as (record e { core = a }) e' (record { settings = d.settings; batch = d.batch; shards = d.shards }) core k w.text w.is; grown = w.grown }, flushed);
 }
 
 -- a part of a marker was written
-pub cuts_through : (e e' : Engine) (a : Controller) → ShardsStay e e' → e'.core ≡ a → (k : Marker) → ((m : MachineControl) → StandsFor e.core m → Sends e.core a k m) → Posts e.core a [] → idle_in a ≡ idle_in e.core
+pub cuts_through : (e e' : Engine) (a : Controller) → ShardsStay e e' → e'.core ≡ a → (k : Marker) → ((m : MachineControl) → StandsFor e.core m → Sends e.core a k m) → Posts e.core a [] → idle_in a ≡ idle_in e.core → NoneNumbered e.core a
     → (o o' : Output) → WritesPart (record e { core = a }) k (text_in o) (text_in o') → CutsThrough e e' o o'
-cuts_through e e' a d core k event order idle o o' w = record {
+cuts_through e e' a d core k event order idle numbers o o' w = record {
   marker = k;
   finished = λ m h. (event m h).made.allowed.1;
   sent = record {
     event = λ m h. subst (λ (b : Controller). Sends e.core b k m) (sym core) (event m h);
     order = subst (λ (b : Controller). Posts e.core b []) (sym core) order;
     idle = ap idle_in core ∙ idle;
+    numbers = subst (λ (b : Controller). NoneNumbered e.core b) (sym core) numbers;
     shards = d;
   };
   writes = of w;

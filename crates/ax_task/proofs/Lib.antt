@@ -7,6 +7,7 @@ pub mod Stopped
 pub mod Whole
 pub mod Parsed
 pub mod Telling
+pub mod Numbered
 pub mod KeptAsks
 pub mod Served
 pub mod Refining

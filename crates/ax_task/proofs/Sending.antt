@@ -18,6 +18,7 @@ use Rattle.ax_core.specs.Flow.{out_of}
 use Rattle.ax_core.specs.Sound.{StandsFor, IsSound}
 use Rattle.ax_core.specs.Events.{SameRules, KeysStay, OfKeys, AsksAll, IsBatchOut, ServesAll, names_in}
 use Rattle.ax_core.specs.Batches.{OthersOut}
+use Rattle.ax_core.specs.Numbers.{NoneNumbered}
 use Rattle.ax_core.specs.Order.{SendsFirst, Posts, replies_in, idle_in}
 use Rattle.ax_task.specs.Serving.{Content, AllFit}
 use Rattle.ax_task.specs.Shards.{Serving, shard_count, held, out, next_out, IsNext, Stays, Came}
@@ -140,9 +141,9 @@ nothing e home none = record {
 pub sent_first : (e e' : Engine) (shard : ℕ) (batch : List Item) → batch ≡ take (batch_of e) (queue_of e.core.buffer shard)
     → SendsFirst e.core e'.core shard (batch_of e) batch → ((t : ℕ) → out e'.shards t ≡ upd (out e.shards) shard batch t) → ((t : ℕ) → held e'.shards t ≡ held e.shards t)
     → e'.shards.sent ≡ e.shards.sent ++ shard ∷ [] → e'.shards.order ≡ e.shards.order
-    → idle_in e'.core ≡ idle_in e.core → e'.settings ≡ e.settings → batch_of e' ≡ batch_of e
+    → idle_in e'.core ≡ idle_in e.core → NoneNumbered e.core e'.core → e'.settings ≡ e.settings → batch_of e' ≡ batch_of e
     → ((m : MachineControl) → StandsFor e.core m → StandsFor e'.core m) → ((m : MachineControl) → StandsFor e.core m → AsksAll e.core shard m batch) → IsSent e e' shard
-sent_first e e' shard batch is queue now kept sent order idle settings size stands asks = record {
+sent_first e e' shard batch is queue now kept sent order idle numbers settings size stands asks = record {
   event = stands;
   asks = subst (λ (b : List Item). (m : MachineControl) → StandsFor e.core m → AsksAll e.core shard m b) is asks;
   queue = subst (λ (b : List Item). SendsFirst e.core e'.core shard (batch_of e) b) is queue;
@@ -151,15 +152,16 @@ sent_first e e' shard batch is queue now kept sent order idle settings size stan
   sent = sent;
   order = order;
   idle = idle;
+  numbers = numbers;
   settings = settings;
   batch = size;
 }
 
 -- what came back is the batch that was next
 pub back_next : (e e' : Engine) (n shard : ℕ) (rs : List Reply) → Came n (out e.shards) (out e'.shards) (held e.shards) (held e'.shards) shard (Ok rs)
-    → IsNext e.shards e'.shards shard → Posts e.core e'.core (replies_in e.core rs) → idle_in e'.core ≡ idle_in e.core → e'.settings ≡ e.settings → batch_of e' ≡ batch_of e
+    → IsNext e.shards e'.shards shard → Posts e.core e'.core (replies_in e.core rs) → idle_in e'.core ≡ idle_in e.core → NoneNumbered e.core e'.core → e'.settings ≡ e.settings → batch_of e' ≡ batch_of e
     → ((m : MachineControl) → StandsFor e.core m → ServesAll e.core e'.core rs m) → IsBack e e' (next_out e.shards)
-back_next e e' n shard rs came next posts idle settings size served = subst (IsBack e e') next.shard (record {
+back_next e e' n shard rs came next posts idle numbers settings size served = subst (IsBack e e') next.shard (record {
   event = subst (λ (ys : List Reply). (m : MachineControl) → StandsFor e.core m → ServesAll e.core e'.core ys m) came.served.replies served;
   next = next;
   was_out = came.was_out;
@@ -168,6 +170,7 @@ back_next e e' n shard rs came next posts idle settings size served = subst (IsB
   served = came.served.content;
   others = came.others;
   idle = idle;
+  numbers = numbers;
   settings = settings;
   batch = size;
 })

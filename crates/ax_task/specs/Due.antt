@@ -6,6 +6,7 @@ use Rattle.ax_execution.specs.MachineControls.{MachineControl, in_flight_on}
 use Rattle.ax_execution.specs.ControlsAllowed.{NoneIsIdleOn}
 use Rattle.ax_core.specs.declared.controller.Controller.{Controller}
 use Rattle.ax_core.specs.Sound.{StandsFor, IsSound}
+use Rattle.ax_core.specs.Views.{settings_of}
 use Rattle.ax_task.specs.Exchanged.{LessIsLeft}
 use Rattle.ax_task.specs.declared.end.End.{End}
 use Rattle.ax_task.specs.declared.engine.Engine.{Engine}
@@ -21,7 +22,7 @@ pub record IsFree (a : Controller) : Type 0 where
   pub none : in_flight_on control ≡ 0
   pub unsent : control.unsent ≡ []
   pub idle : NoneIsIdleOn control
-  pub some : 0 < a.settings.in_flight
+  pub some : 0 < (settings_of a).in_flight
 
 -- the event that is held, and what may be read: at most one event for each byte within the limit, and the end
 abbrev pub one_held : Option CodeEvent → ℕ

@@ -18,6 +18,7 @@ use Rattle.ax_core.specs.declared.controller.Controller.{Controller}
 use Rattle.ax_core.specs.May.{may_admit, may_close}
 use Rattle.ax_core.specs.Sound.{StandsFor, IsSound}
 use Rattle.ax_core.specs.Events.{MayFireOn}
+use Rattle.ax_core.specs.Views.{program_of, timers_of, wm_of}
 use Rattle.ax_task.specs.Shards.{shard_count, held, out}
 use Rattle.ax_task.specs.Refined.{content_over, Refines}
 use Rattle.ax_task.specs.declared.engine.Engine.{Engine}
@@ -88,9 +89,9 @@ pub record IsQuiet (a : Controller) : Type 0 where
 -- the block of a barrier, where each key has the lines of what the shards hold and of its timers
 pub record IsBlockOf (e : Engine) (id : ℤ) (bytes : List ℕ) : Type 0 where
   pub parts : List Part
-  pub lines : (k : Key) → lines_among (shown_program e.core.program).states k parts
-      ≡ part_lines (shown_program e.core.program).states (record { key = k; state = record { cells = content_over e.settings (held e.shards) k; times = times_of e.core.timers k } })
-  pub text : bytes ≡ block_text e.settings.groups (shown_program e.core.program).states id e.core.wm parts
+  pub lines : (k : Key) → lines_among (shown_program (program_of e.core)).states k parts
+      ≡ part_lines (shown_program (program_of e.core)).states (record { key = k; state = record { cells = content_over e.settings (held e.shards) k; times = times_of (timers_of e.core) k } })
+  pub text : bytes ≡ block_text e.settings.groups (shown_program (program_of e.core)).states id (wm_of e.core) parts
 
 -- what is written as a marker
 abbrev pub IsMarkerText : Engine → Marker → List ℕ → Type 0

@@ -6,7 +6,9 @@ use Rattle.ax_buffer.specs.Buffer.{queue_of}
 use Rattle.ax_execution.specs.MachineControls.{MachineControl}
 use Rattle.ax_core.specs.Sound.{StandsFor}
 use Rattle.ax_core.specs.Events.{AsksAll, ServesAll}
+use Rattle.ax_core.specs.Numbers.{NoneNumbered}
 use Rattle.ax_core.specs.Order.{SendsFirst, Posts, replies_in, idle_in}
+use Rattle.ax_core.specs.Views.{buffer_of}
 use Rattle.ax_task.specs.Serving.{replies_to, content_after}
 use Rattle.ax_task.specs.Shards.{held, out, next_out, IsNext}
 use Rattle.ax_task.specs.Engines.{batch_of, order_of}
@@ -17,7 +19,7 @@ use Rattle.ax_task.specs.declared.engine.Engine.{Engine}
 -- a shard is home, and so many requests wait for it
 pub record IsHomeWith (e : Engine) (least shard : ℕ) : Type 0 where
   pub home : out e.shards shard ≡ []
-  pub waits : least ≤ length (queue_of e.core.buffer shard)
+  pub waits : least ≤ length (queue_of (buffer_of e.core) shard)
 
 -- what is left to do, as long as nothing more is taken
 abbrev pub left : Engine → ℕ
@@ -28,7 +30,7 @@ LessIsLeft old new = left new < left old
 
 -- no request waits, and nothing is out
 pub record NothingWaits (e : Engine) : Type 0 where
-  pub queues : (shard : ℕ) → shard < e.settings.shards → queue_of e.core.buffer shard ≡ []
+  pub queues : (shard : ℕ) → shard < e.settings.shards → queue_of (buffer_of e.core) shard ≡ []
   pub home : (shard : ℕ) → out e.shards shard ≡ []
 
 -- for no shard that is home so many requests wait
@@ -43,7 +45,7 @@ pub record IsFirstHomeWith (e : Engine) (least shard : ℕ) : Type 0 where
 
 -- the first requests that wait for a shard: as many as go at once, or all where fewer wait
 abbrev pub next_batch : Engine → ℕ → List Item
-next_batch e shard = take (batch_of e) (queue_of e.core.buffer shard)
+next_batch e shard = take (batch_of e) (queue_of (buffer_of e.core) shard)
 
 -- they were sent to the shard, which is out with them. That is no event of the machine: the controller still stands for the same control, in
 -- which each of them waits at its key, unserved
@@ -56,6 +58,7 @@ pub record IsSent (old new : Engine) (shard : ℕ) : Type 0 where
   pub sent : new.shards.sent ≡ old.shards.sent ++ shard ∷ []
   pub order : order_of new ≡ order_of old
   pub idle : idle_in new.core ≡ idle_in old.core
+  pub numbers : NoneNumbered old.core new.core
   pub settings : new.settings ≡ old.settings
   pub batch : batch_of new ≡ batch_of old
 
@@ -70,6 +73,7 @@ pub record IsBack (old new : Engine) (shard : ℕ) : Type 0 where
   pub served : held new.shards shard ≡ content_after (out old.shards shard) (held old.shards shard)
   pub others : (s : ℕ) → s ≢ shard → held new.shards s ≡ held old.shards s
   pub idle : idle_in new.core ≡ idle_in old.core
+  pub numbers : NoneNumbered old.core new.core
   pub settings : new.settings ≡ old.settings
   pub batch : batch_of new ≡ batch_of old
 

@@ -1,5 +1,5 @@
 -- What the bytes of an input and those of an output tell, and what an end tells.
-use Rattle.std.specs.Prelude.{◌≡◌, ℕ, List, [], ◌++◌, Bool, Some}
+use Rattle.std.specs.Prelude.{◌≡◌, ℕ, List, [], ◌++◌, Bool, Option, Some}
 use Rattle.std.specs.Io.KnownBytes.{Appends}
 use Rattle.ax_base.specs.Outside.{AppendsSome}
 use Rattle.ax_text.specs.Programs.{Program}
@@ -10,6 +10,7 @@ use Rattle.ax_input.specs.PlainEntries.{IsShort}
 use Rattle.ax_execution.specs.MachineControls.{MachineControl, in_flight_on}
 use Rattle.ax_execution.specs.ControlsAllowed.{NoneIsIdleOn}
 use Rattle.ax_core.specs.declared.controller.Controller.{Controller}
+use Rattle.ax_core.specs.Numbers.{NumbersWith}
 use Rattle.ax_core.specs.Sound.{StandsFor}
 use Rattle.ax_task.specs.Sections.{IsUnfinished}
 use Rattle.ax_task.specs.Parse.{Parsed, BadProgram, Runs, Stream, Ending, Clean, section_in, parse}
@@ -100,3 +101,7 @@ pub record LeftNothing (t : State) (e : End) : Type 0 where
   pub free : IsFree t.engine.core
   pub none : NothingGoesOn t.engine.core
   pub gathered : t.gathered ≡ []
+
+-- what is between these two is a call of the controller that made a context with the next number, or none
+abbrev pub IsCall : Controller → Controller → Type 0
+IsCall a b = (n : Option ℕ) × NumbersWith a b n

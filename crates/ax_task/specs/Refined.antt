@@ -19,6 +19,7 @@ use Rattle.ax_core.specs.declared.controller.Controller.{Controller}
 use Rattle.ax_core.specs.Flow.{shard_of, out_of}
 use Rattle.ax_core.specs.Sound.{rules_of, StandsFor}
 use Rattle.ax_core.specs.Events.{Asks, names_in, key_in}
+use Rattle.ax_core.specs.Views.{program_of, settings_of, contexts_of}
 use Rattle.ax_task.specs.Serving.{Content}
 
 -- what the states of keys hold, each in the shard of its key
@@ -38,11 +39,11 @@ pub record Reaches (s : Settings) (p : AnyProgram) (content : Content) (read : L
 -- The controller stands for the control of such a machine. `content` is what the states of keys hold, those under a batch that is out as they
 -- were when it left, and `out` is the batch that a shard is out with, empty where it is home: its requests wait, unserved, at their keys.
 pub record Refines (s : Settings) (p : Program) (a : Controller) (content : Content) (out : ℕ → List Item) (read : List Event) (written : List Entry) : Type 0 where
-  pub program : a.program ≡ p
-  pub settings : a.settings ≡ s
+  pub program : program_of a ≡ p
+  pub settings : settings_of a ≡ s
   pub machine : Machine
   pub reaches : Reaches s (shown_program p) content read written machine
   pub stands : StandsFor a (control_of_machine machine)
   pub names : (shard : ℕ) → out_of a shard ≡ names_in (out shard)
-  pub keys : (shard : ℕ) (i : Item) → Contains (out shard) i → key_in (at a.contexts i.id) ≡ i.key
+  pub keys : (shard : ℕ) (i : Item) → Contains (out shard) i → key_in (at (contexts_of a) i.id) ≡ i.key
   pub asks : (shard : ℕ) (i : Item) → Contains (out shard) i → Asks a shard (control_of_machine machine) i

@@ -26,6 +26,7 @@ use Rattle.ax_execution.specs.MachineControls.{control_work}
 use Rattle.ax_core.specs.declared.record.Record.{Record}
 use Rattle.ax_core.specs.declared.controller.Controller.{Controller}
 use Rattle.ax_core.specs.Contexts.{answer_in}
+use Rattle.ax_core.specs.Views.{program_of, mails_of, contexts_of, accounts_of, timers_of, epochs_of, buffer_of, settings_of}
 use Rattle.ax_task.specs.Serving.{Content}
 
 -- what the controller holds of a context and of what waits, as the machine has it; each epoch counts as 0
@@ -58,9 +59,9 @@ items_in s (item.Mark epoch time fired ∷ is) = Mark 0 time (most_firings - fir
 
 abbrev pub control_in : Controller → Key → KeyControl
 control_in a k = record {
-  owner = owner_in a.program a.mails.mails a.contexts (part_of a.accounts k).owner;
-  waiting = items_in a.contexts (part_of a.accounts k).waiting;
-  times = times_of a.timers k;
+  owner = owner_in (program_of a) (mails_of a).mails (contexts_of a) (part_of (accounts_of a) k).owner;
+  waiting = items_in (contexts_of a) (part_of (accounts_of a) k).waiting;
+  times = times_of (timers_of a) k;
 }
 
 -- these keys, rising
@@ -70,15 +71,15 @@ rising (k ∷ ks) = insert_key key_cmp (rising ks) k
 
 -- the work left of the keys that aren't free, and one for each marker to be sent
 abbrev pub work_in : Controller → Content → ℕ
-work_in a content = total (rising (busy_keys a.accounts)) (λ k. control_work (shown_program a.program) (control_in a k) (content k)) + length a.epochs.closed
+work_in a content = total (rising (busy_keys (accounts_of a))) (λ k. control_work (shown_program (program_of a)) (control_in a k) (content k)) + length (epochs_of a).closed
 
 -- the requests in queues, and the mails
 abbrev pub on_hand : Controller → ℕ
-on_hand a = total_of length a.buffer.queues + length a.mails.mails
+on_hand a = total_of length (buffer_of a).queues + length (mails_of a).mails
 
 -- so much is on hand at most
 abbrev pub most_on_hand : Controller → ℕ
-most_on_hand a = a.settings.in_flight * (program_width (shown_program a.program) + 1)
+most_on_hand a = (settings_of a).in_flight * (program_width (shown_program (program_of a)) + 1)
 
 -- what falls with each thing that the task does and that takes nothing of the input
 abbrev pub left_to_do : Controller → Content → ℕ

@@ -11,11 +11,12 @@ ghost use Rattle.ax_core.specs.declared.effects.Fired.{Fired as AnyFired};
 ghost use Rattle.ax_core.specs.declared.effects.Effects.{Effects as AnyEffects};
 ghost use Rattle.ax_core.specs.May.{may_fire, may_close, has_mail};
 ghost use Rattle.ax_core.specs.Sound.{StandsFor};
+ghost use Rattle.ax_core.specs.Views.{program_of, wm_of};
 ghost use Rattle.ax_task.specs.Exchanged.{LessIsLeft};
 ghost use Rattle.ax_task.specs.Due.{IsFree};
 ghost use Rattle.ax_task.specs.Calls.{HasFired, HasRun, HasMarked, HasTaken};
 ghost use Rattle.ax_task.specs.Things.{OutputStays, SendsThrough, CutsThrough, DoesWork, WorkBreaks, NoWork};
-ghost use Rattle.ax_task.specs.Unused.{IsUnused, program_of};
+ghost use Rattle.ax_task.specs.Unused.{IsUnused};
 ghost use Rattle.ax_task.specs.Engines.{Stands, ShardsStay, batch_of, order_of, IsReady, MovesOn, Takes, Writes, WritesSome, IsQuiet, WroteMarker, WritesPart, may_take};
 
 use crate::config::Config;
@@ -258,7 +259,7 @@ impl Engine {
     // Whether a watermark is greater than the last.
     fn is_greater(&self, time: &i64) -> bool
         requires { IsReady self.now }
-        ensures { result ≡ int_lt self.now.core.wm time.now }
+        ensures { result ≡ int_lt (wm_of self.now.core) time.now }
     {
         self.core.wm() < *time
     }
@@ -268,7 +269,7 @@ impl Engine {
         requires ready { IsReady self.old }
         requires may { may_close self.old.core ≡ true }
         ensures takes { OnOk result (Takes self.old self.new (Mark time.now)) }
-        ensures marked { OnOk result (HasMarked (int_lt self.old.core.wm time.now) self.old self.new time.now) }
+        ensures marked { OnOk result (HasMarked (int_lt (wm_of self.old.core) time.now) self.old self.new time.now) }
         ensures shards { ShardsStay self.old self.new }
     {
         if self.is_greater(time) {

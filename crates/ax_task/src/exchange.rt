@@ -4,6 +4,7 @@ ghost use Rattle.ax_buffer.specs.Buffer.{queue_of};
 ghost use Rattle.ax_task.specs.Shards.{held, out, next_out, Stays};
 ghost use Rattle.ax_task.specs.Engines.{IsReady, MovesOn, batch_of};
 ghost use Rattle.ax_task.specs.Exchanged.{IsHomeWith, LessIsLeft, NothingWaits, NoneHomeWith, NoneOut, IsSent, IsBack, Exchanges};
+ghost use Rattle.ax_core.specs.Views.{buffer_of};
 
 use crate::engine::Engine;
 use ax_base::NoMemory;
@@ -39,7 +40,7 @@ impl Engine {
         requires ready { IsReady self.old }
         requires shard { shard < self.old.settings.shards }
         requires home { out self.old.shards shard ≡ [] }
-        requires waits { 0 < length (queue_of self.old.core.buffer shard) }
+        requires waits { 0 < length (queue_of (buffer_of self.old.core) shard) }
         ensures moves { OnOk result (MovesOn self.old self.new) }
         ensures falls { OnOk result (LessIsLeft self.old self.new) }
         ensures sent { OnOk result (IsSent self.old self.new shard) }

@@ -13,8 +13,8 @@ ghost use Rattle.ax_task.specs.Running.{State};
 ghost use Rattle.ax_task.specs.Engines.{IsReady};
 ghost use Rattle.ax_task.specs.Exchanged.{NothingWaits};
 ghost use Rattle.ax_task.specs.Due.{IsFree};
-ghost use Rattle.ax_task.specs.Things.{NoWork, StepDoes};
-ghost use Rattle.ax_task.specs.Laws.{MayEndWith, MayHaveWritten, TextsTell, OfWholeLines, PartOf, WroteWhatIsRead, WroteAPart, WroteAll, IsFoundEnd, NothingGoesOn, LeftNothing};
+ghost use Rattle.ax_task.specs.Things.{Does, NoWork, StepDoes};
+ghost use Rattle.ax_task.specs.Laws.{IsCall, MayEndWith, MayHaveWritten, TextsTell, OfWholeLines, PartOf, WroteWhatIsRead, WroteAPart, WroteAll, IsFoundEnd, NothingGoesOn, LeftNothing};
 ghost use Rattle.ax_task.specs.declared.engine.Engine.{Engine as AnyEngine};
 ghost use Rattle.ax_task.specs.declared.end.End.{End};
 ghost use Rattle.ax_task.specs.declared.end.End.TheVariants as end;
@@ -69,4 +69,10 @@ pub fn ended_steps_left_nothing()
 pub fn tasks_without_work_are_at_rest()
     ensures free { (e : AnyEngine) → IsReady e → NoWork e → NothingWaits e → IsFree e.core }
     ensures none { (e : AnyEngine) → IsReady e → NoWork e → NothingWaits e → NothingGoesOn e.core }
+{}
+
+/// Each thing that a step does is a call of the controller by which at most one context is made, with the next number, or changes nothing
+/// of that. So the contexts of a task are counted, as `contexts_are_counted` of `ax_core` says of calls one after another.
+pub fn steps_are_calls()
+    ensures { (t u : State) (old now : Outer) → Does t u old now → IsCall t.engine.core u.engine.core }
 {}

@@ -22,7 +22,8 @@ ghost use Rattle.ax_task.specs.Things.{Does, Rests, Ends, Breaks, ByEnd, ByStop,
 ghost use Rattle.ax_task.specs.Tasks.{Outer, From, MayRead, IsFound, Finds, HasEnded};
 ghost use Rattle.ax_task.specs.Tasks as tasks;
 ghost use Rattle.ax_task.specs.Causes.{IsAtRest, EndsAtRest, EndWrites, DidCounts, StepIsCaused};
-ghost use Rattle.ax_task.specs.Unused.{IsUnused, program_of};
+ghost use Rattle.ax_core.specs.Views.{program_of};
+ghost use Rattle.ax_task.specs.Unused.{IsUnused};
 ghost use Rattle.ax_task.specs.Running.{State as AnyState, state_of, has_ended, found_of, controller_of, took_event, start, IsFresh, IsSteady, StaysSteady, IsRunning, DidLeaves, GoesOn, ComesNearer, is_end, step_of, RunEndsAs};
 ghost use Rattle.ax_task.specs.declared.end.End.{End as AnyEnd};
 ghost use Rattle.ax_task.specs.declared.engine.Engine.{Engine as AnyEngine};

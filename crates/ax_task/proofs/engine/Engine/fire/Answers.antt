@@ -16,4 +16,4 @@ returns-clause-falls c =
 pub returns-clause-fired : goal.returns-clause-fired
 returns-clause-fired c =
     let fired = c.in_ok-fire_next.ensures in
-    (c.in_ok-fire_next.field-0, record { event = fired.event; order = fired.order; idle = fired.idle; shards = shards_stay _ _ refl refl refl })
+    (c.in_ok-fire_next.field-0, record { event = fired.event; order = fired.order; idle = fired.idle; numbers = fired.number; shards = shards_stay _ _ refl refl refl })

@@ -54,4 +54,4 @@ returns-clause-back c = λ _.
     let shard = c.in-Some.back.shard in
     let ok : c.in-Some.back.replies ≡ Ok rs = c.in_ok-back.was in
     let came : Came (shard_count e.shards) (out e.shards) (out v) (held e.shards) (held v) shard (Ok rs) = came_ok _ _ _ _ _ shard _ rs ok c.in-Some.ensures.gives in
-    back_next e new (shard_count e.shards) shard rs came c.in-Some.ensures.next c.deliver.ensures.order c.deliver.ensures.idle refl refl c.deliver.ensures.served
+    back_next e new (shard_count e.shards) shard rs came c.in-Some.ensures.next c.deliver.ensures.order c.deliver.ensures.idle c.deliver.ensures.number refl refl c.deliver.ensures.served

@@ -45,7 +45,7 @@ returns-clause-ran g c =
     let behind = g.K.Sink.holds c.write_lines.new.out in
     on_ok c.write_lines.result c.write_lines.ensures.lines (λ a. (
       f,
-      record { event = ran.event; order = ran.order; idle = ran.idle; shards = shards_stay _ _ refl refl refl },
+      record { event = ran.event; order = ran.order; idle = ran.idle; numbers = ran.number; shards = shards_stay _ _ refl refl refl },
       subst (λ (ls : List (List ℤ)). Appends before behind (text_of (says f.key ls))) c.as_slice.ensures a,
     ))
 
@@ -60,6 +60,6 @@ returns-clause-broke g c =
     let behind = g.K.Sink.holds c.write_lines.new.out in
     on_err c.write_lines.result c.write_lines.ensures.part (λ a. inr (
       f,
-      record { event = ran.event; order = ran.order; idle = ran.idle; shards = shards_stay _ _ refl refl refl },
+      record { event = ran.event; order = ran.order; idle = ran.idle; numbers = ran.number; shards = shards_stay _ _ refl refl refl },
       subst (λ (ls : List (List ℤ)). AppendsSome before behind (text_of (says f.key ls))) c.as_slice.ensures a,
     ))

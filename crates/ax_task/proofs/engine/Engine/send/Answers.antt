@@ -31,4 +31,4 @@ returns-clause-sent c =
     let new : Engine = record { alloc = e.alloc; settings = e.settings; batch = e.batch; core = c.batch_for.new.self; shards = c.send.new.self; text = e.text } in
     let took = c.in_ok-batch.ensures in
     let sent = c.send.ensures in
-    sent_first e new c.args.shard c.in_ok-batch.batch took.batch took.order sent.out sent.held sent.sent sent.order took.idle refl refl took.stands took.asks
+    sent_first e new c.args.shard c.in_ok-batch.batch took.batch took.order sent.out sent.held sent.sent sent.order took.idle took.number refl refl took.stands took.asks

@@ -64,7 +64,7 @@ returns-clause-sent g c = λ _.
     let took = c.in-Some.ensures in
     let wrote = c.in_ok-write_through.ensures in
     let behind = c.write_through.new.out in
-    sends_through c.args.self.now c.write_through.new.self c.next_marker.new.self (shards_stay _ _ wrote.settings wrote.batch wrote.shards) wrote.core c.in-Some.marker took.event took.order took.idle
+    sends_through c.args.self.now c.write_through.new.self c.next_marker.new.self (shards_stay _ _ wrote.settings wrote.batch wrote.shards) wrote.core c.in-Some.marker took.event took.order took.idle took.number
     (record { holds = held c.args.out.now.inner.now; gathered = c.args.out.now.room.now }) (record { holds = held behind.inner.now; gathered = behind.room.now }) wrote.wrote wrote.flushed
 
 pub returns-in_err-write_through-clause-broke : goal.returns-in_err-write_through-clause-broke
@@ -74,5 +74,5 @@ returns-in_err-write_through-clause-broke g c =
     let wrote = c.in_err-write_through.ensures in
     let behind = c.write_through.new.out in
     at_err c.from_residual.result
-    (cuts_through c.args.self.now c.write_through.new.self c.next_marker.new.self (shards_stay _ _ wrote.settings wrote.batch wrote.shards) wrote.core c.in-Some.marker took.event took.order took.idle
+    (cuts_through c.args.self.now c.write_through.new.self c.next_marker.new.self (shards_stay _ _ wrote.settings wrote.batch wrote.shards) wrote.core c.in-Some.marker took.event took.order took.idle took.number
     (record { holds = held c.args.out.now.inner.now; gathered = c.args.out.now.room.now }) (record { holds = held behind.inner.now; gathered = behind.room.now }) wrote.part)

@@ -51,6 +51,7 @@ returns-in_ok-admit-in-Row-clause-taken c =
       event = subst (λ (z : ℤ). (m : MachineControl) → StandsFor e.core m → Makes e.core c.admit.new.self (Admit c.in_ok-admit-in-Row.field-0 c.in-Row.key z c.in-Row.values) m) same row.event;
       order = row.order;
       idle = row.idle;
+      numbers = row.number;
       shards = shards_stay _ _ refl refl refl;
     })
 
@@ -62,4 +63,4 @@ returns-in-Barrier-clause-taken c =
     subst (λ (v : CodeEvent). OnOk c.close.result (HasTaken e e' v)) (sym c.in-Barrier.is)
     (subst (λ (z : ℤ). OnOk c.close.result (HasClosed e e' (marker.Barrier z))) same
     (subst (λ (k : Marker). OnOk c.close.result (HasClosed e e' k)) c.barrier.ensures
-    (close_has e e' (shards_stay _ _ refl refl refl) c.barrier.result c.close.result c.close.ensures.order c.close.ensures.idle c.close.ensures.event)))
+    (close_has e e' (shards_stay _ _ refl refl refl) c.barrier.result c.close.result c.close.ensures.order c.close.ensures.idle c.close.ensures.number c.close.ensures.event)))
