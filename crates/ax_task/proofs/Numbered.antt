@@ -19,7 +19,7 @@ none : (a b : Controller) → NoneNumbered a b → IsCall a b
 none a b h = (None, h)
 
 one : (a b : Controller) (n : ℕ) → IsNumbered a b n → IsCall a b
-one a b n h = (Some n, (a, (record { next = refl; used = λ k u. u }, h)))
+one a b n h = (Some n, (a, record { next = refl; used = λ k u. u }, h))
 
 still : (a : Controller) → IsCall a a
 still a = (None, record { next = refl; used = λ k u. u })
