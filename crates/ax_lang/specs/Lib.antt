@@ -10,3 +10,4 @@ pub mod Programs
 pub mod Laws
 pub mod Spelling
 pub mod Examples
+pub mod Sections
