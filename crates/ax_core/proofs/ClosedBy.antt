@@ -200,6 +200,7 @@ with_mark a w accounts book = record {
   mails = a.mails;
   timers = a.timers;
   epochs = book;
+  spare = a.spare;
 }
 
 -- a mark takes no owner off

@@ -33,6 +33,7 @@ pub mod Unserved
 pub mod Once
 pub mod Posted
 pub mod StartLemmas
+pub mod BegunLemmas
 pub mod TimerLemmas
 pub mod Marking
 pub mod Marked

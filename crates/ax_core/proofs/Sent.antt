@@ -37,6 +37,7 @@ with_epochs a barrier book = record {
   mails = a.mails;
   timers = a.timers;
   epochs = book;
+  spare = a.spare;
 }
 
 none_some : {A : Type 0} {x : A} → None ≡ Some x → ⊥

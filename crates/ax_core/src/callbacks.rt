@@ -22,12 +22,13 @@ ghost use Rattle.ax_core.specs.Calls.{IsLast, CallEnds, IsReady, MayStart, MayRe
 use crate::controller::Controller;
 use crate::effects::{Effects, Fired, Ran};
 use crate::record::Record;
+use crate::spare::Spare;
 use ax_account::laws::accounts_law;
 use ax_account::{Accounting, MOST_FIRINGS, Next};
 use ax_base::{Duplicate, NoMemory};
 use ax_buffer::{Item, RequestBuffer};
 use ax_context::{Contexts, Id, Released};
-use ax_future::{Ask, Asks, Handler, Machine, TimerOp, Turn};
+use ax_future::{Ask, Handler, Machine, TimerOp, Turn};
 use ax_keys::Key;
 use ax_lang::{Program, program_is_accepted};
 use ax_mailbox::{Mail, Mailbox};
@@ -88,7 +89,14 @@ impl Controller {
         let ran = Ran::Start {
             context: self.contexts.number(id),
         };
-        let turn = begin_at(self.alloc, &self.program, &mut self.contexts, id)?;
+        let mut turn = self.spare.turn();
+        begin_at(
+            &self.program,
+            &mut self.contexts,
+            id,
+            &mut self.spare,
+            &mut turn,
+        )?;
         self.end_callback(id, ran, turn)
     }
 
@@ -102,7 +110,15 @@ impl Controller {
             context: self.contexts.number(id),
             slot,
         };
-        let turn = resume_at(&self.program, &mut self.contexts, id, slot, answer)?;
+        let mut turn = self.spare.turn();
+        resume_at(
+            &self.program,
+            &mut self.contexts,
+            id,
+            slot,
+            answer,
+            &mut turn,
+        )?;
         self.end_callback(id, ran, turn)
     }
 
@@ -142,8 +158,9 @@ impl Controller {
             shard,
             id,
             &key,
-            asks,
+            asks.as_slice(),
         )?;
+        self.spare.keep_turn(asks, timer_ops);
         self.contexts.release_one(id);
         Ok(Effects {
             key,
@@ -163,16 +180,17 @@ impl Controller {
         ensures ends { IfOk result (λ f. Has self.old.contexts id (λ h. CallEnds self.old self.new id h turn f)) }
     {
         let Turn {
+            asks,
             outs,
             timer_ops,
-            ..
         } = turn;
         set_timers(
             &mut self.timers,
             &self.contexts.get(id).facts.key,
             timer_ops.as_slice(),
         )?;
-        let ended = give_up(&mut self.contexts, id);
+        self.spare.keep_turn(asks, timer_ops);
+        let ended = give_up(&mut self.contexts, id, &mut self.spare);
         leave_row(&mut self.epochs, ended.handler, ended.epoch);
         let fired = self.go_on(&ended.key)?;
         Ok(Effects {
@@ -218,16 +236,20 @@ impl Controller {
     }
 }
 
-// The handler of a context begins, in the place of its machine.
-fn begin(alloc: Global, program: &Program, record: &mut Record) -> Result<Turn, NoMemory>
-    ensures { IfOk result (λ turn. Begins program.now record.old record.new turn) }
+// The handler of a context begins, in the place of a machine.
+fn begin(
+    program: &Program,
+    record: &mut Record,
+    machine: Machine,
+    turn: &mut Turn,
+) -> Result<(), NoMemory>
+    ensures { OnOk result (Begins program.now record.old record.new turn.new) }
 {
-    record.machine = Some(Machine::new(alloc));
+    record.machine = Some(machine);
     let Some(machine) = &mut record.machine else {
         unreachable!()
     };
-    let turn = machine.start_here(program, record.handler, &record.facts)?;
-    Ok(turn)
+    machine.start_into(program, record.handler, &record.facts, turn)
 }
 
 // The handler of a context is given an answer.
@@ -236,30 +258,31 @@ fn resume(
     record: &mut Record,
     slot: u8,
     answer: Answer,
-) -> Result<Turn, NoMemory>
+    turn: &mut Turn,
+) -> Result<(), NoMemory>
     requires { WaitsAt program.now record.old.machine slot }
-    ensures { IfOk result (λ turn. ResumedAt program.now record.old record.new record.old.machine slot answer turn) }
+    ensures { OnOk result (ResumedAt program.now record.old record.new record.old.machine slot answer turn.new) }
 {
     let Some(machine) = &mut record.machine else {
         unreachable!()
     };
-    let turn = machine.resume(program, &record.facts, slot, answer)?;
-    Ok(turn)
+    machine.resume_into(program, &record.facts, slot, answer, turn)
 }
 
 // The handler of a live context begins.
 #[tactic(auto, using(crate::proofs::GetLemmas::has_begun))]
 fn begin_at(
-    alloc: Global,
     program: &Program,
     contexts: &mut Contexts<Record>,
     id: Id,
-) -> Result<Turn, NoMemory>
+    spare: &mut Spare,
+    turn: &mut Turn,
+) -> Result<(), NoMemory>
     requires { IsLive contexts.old id }
-    ensures { IfOk result (λ turn. Has contexts.old id (λ c. HasBegun program.now contexts.old contexts.new id c turn)) }
+    ensures { OnOk result (Has contexts.old id (λ c. HasBegun program.now contexts.old contexts.new id c turn.new)) }
 {
     let record = contexts.get_mut(id);
-    begin(alloc, program, record)
+    begin(program, record, spare.machine(), turn)
 }
 
 // The handler of a live context is given an answer.
@@ -270,12 +293,13 @@ fn resume_at(
     id: Id,
     slot: u8,
     answer: Answer,
-) -> Result<Turn, NoMemory>
+    turn: &mut Turn,
+) -> Result<(), NoMemory>
     requires { Has contexts.old id (λ c. WaitsAt program.now c.payload.machine slot) }
-    ensures { IfOk result (λ turn. Has contexts.old id (λ c. HasResumed program.now contexts.old contexts.new id c slot answer turn)) }
+    ensures { OnOk result (Has contexts.old id (λ c. HasResumed program.now contexts.old contexts.new id c slot answer turn.new)) }
 {
     let record = contexts.get_mut(id);
-    resume(program, record, slot, answer)
+    resume(program, record, slot, answer, turn)
 }
 
 // Sets or takes off a timer of the key.
@@ -310,19 +334,19 @@ fn ask_one(
     shard: u16,
     id: Id,
     key: &Key,
-    ask: Ask,
+    ask: &Ask,
 ) -> Result<(), NoMemory>
     requires few { Has contexts.old id (λ c. c.count < 17) }
     requires shard { shard < length buffer.old.queues }
     requires room { total length buffer.old.queues < buffer.old.room }
     ensures held { OnOk result (IsHeld contexts.old contexts.new id 1) }
-    ensures queued { OnOk result (IsQueued buffer.old buffer.new shard (item_for id key.now ask ∷ [])) }
+    ensures queued { OnOk result (IsQueued buffer.old buffer.new shard (item_for id key.now ask.now ∷ [])) }
 {
     let item = Item {
         id,
         slot: ask.slot,
         key: key.copy(alloc)?,
-        request: ask.request,
+        request: ask.request.copy(alloc)?,
     };
     contexts.retain(id);
     buffer.push(shard, item);
@@ -337,15 +361,15 @@ fn ask_all(
     shard: u16,
     id: Id,
     key: &Key,
-    asks: Asks,
+    asks: &[Ask],
 ) -> Result<(), NoMemory>
-    requires few { Has contexts.old id (λ c. c.count + length asks ≤ 17) }
+    requires few { Has contexts.old id (λ c. c.count + length asks.now ≤ 17) }
     requires shard { shard < length buffer.old.queues }
-    requires room { total length buffer.old.queues + length asks ≤ buffer.old.room }
-    ensures held { OnOk result (IsHeld contexts.old contexts.new id (length asks)) }
-    ensures queued { OnOk result (IsQueued buffer.old buffer.new shard (items_for id key.now asks)) }
+    requires room { total length buffer.old.queues + length asks.now ≤ buffer.old.room }
+    ensures held { OnOk result (IsHeld contexts.old contexts.new id (length asks.now)) }
+    ensures queued { OnOk result (IsQueued buffer.old buffer.new shard (items_for id key.now asks.now)) }
 {
-    for ask in asks.into_vec() {
+    for ask in asks {
         ask_one(alloc, contexts, buffer, shard, id, key, ask)?;
     }
     Ok(())
@@ -361,14 +385,21 @@ struct Ended {
 
 // The last reference is given up.
 #[inline(never)]
-fn give_up(contexts: &mut Contexts<Record>, id: Id) -> Ended
+fn give_up(contexts: &mut Contexts<Record>, id: Id, spare: &mut Spare) -> Ended
     requires { Has contexts.old id (λ c. c.count ≡ 1) }
     ensures { IsLast contexts.old contexts.new id result.key result.handler result.epoch }
 {
     let Released::Gone { payload, epoch, .. } = contexts.release(id) else {
         unreachable!()
     };
-    let Record { facts, handler, .. } = payload;
+    let Record {
+        facts,
+        handler,
+        machine,
+    } = payload;
+    if let Some(machine) = machine {
+        spare.keep_machine(machine);
+    }
     Ended {
         key: facts.key,
         handler,

@@ -16,6 +16,7 @@ ghost use Rattle.ax_core.specs.Numbers.{NothingNumbered};
 use crate::record::{Name, Record};
 use crate::rooms::{Rooms, take_rooms};
 use crate::settings::Settings;
+use crate::spare::Spare;
 use ax_account::Accounting;
 use ax_base::{ListOf, NoMemory};
 use ax_buffer::RequestBuffer;
@@ -45,6 +46,7 @@ pub struct Controller {
     pub(crate) mails: Mailbox,
     pub(crate) timers: Timers,
     pub(crate) epochs: Epochs,
+    pub(crate) spare: Spare,
 }
 
 impl Controller {
@@ -130,5 +132,6 @@ fn begin(alloc: Global, program: Program, settings: Settings, rooms: Rooms) -> C
         mails: rooms.mails,
         timers: Timers::new(alloc),
         epochs: Epochs::new(alloc),
+        spare: Spare::new(alloc),
     }
 }

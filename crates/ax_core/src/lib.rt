@@ -10,7 +10,8 @@
 //! - `admission`, `closing`, `firing`, `callbacks` and `batches`: its calls.
 //! - `laws`: what holds of a controller between its calls.
 //!
-//! Private modules: `record` has what is held of a context, and `rooms` what a controller takes when it is made.
+//! Private modules: `record` has what is held of a context, `rooms` what a controller takes when it is made, and `spare` the
+//! memory that callbacks use again.
 #![tactic(auto)]
 
 mod admission;
@@ -24,6 +25,7 @@ pub mod laws;
 mod record;
 mod rooms;
 pub mod settings;
+mod spare;
 
 pub use ax_future::Outs;
 pub use ax_time::Marker;

@@ -131,6 +131,28 @@ impl Machine {
         Ok(turn)
     }
 
+    /// Starts a handler, as `start_here` does, and leaves what it did in the memory of a turn: what that said is gone. After
+    /// `NoMemory`, its only fault, the machine waits for nothing.
+    pub fn start_into(
+        &mut self,
+        program: &Program,
+        handler: Handler,
+        facts: &Facts,
+        turn: &mut Turn,
+    ) -> Result<(), NoMemory>
+        ensures turn { OnOk result (begin (facts_in facts.now) (Rest (text_for (shown_program program.now) handler) ∷ []) [] (silent (λ i. pos 0)) ≡ left_by program.now self.new turn.new) }
+        ensures sound { OnOk result (IsSound program.now self.new) }
+        ensures asks { OnOk result (waiting (control_of program.now self.new) ≡ asks_in turn.new.asks) }
+        ensures least { OnOk result (TakesLeast [] (asks_in turn.new.asks)) }
+        ensures rise { OnOk result (SlotsRise (asks_in turn.new.asks)) }
+        ensures stopped { OnErr result (control_of program.now self.new ≡ Done) }
+    {
+        mem::swap(&mut self.going.said, turn);
+        self.restart(program, handler, &facts.known())?;
+        mem::swap(&mut self.going.said, turn);
+        Ok(())
+    }
+
     /// Starts a handler, as `start` does, in the memory of this machine: wherever it stood, that is over, and what it said is
     /// gone. After `NoMemory`, its only fault, the machine waits for nothing.
     pub fn restart(
@@ -192,6 +214,33 @@ impl Machine {
         self.take_answer(program, &facts.known(), slot, answer)?;
         let turn = mem::replace(&mut self.going.said, Turn::new(self.alloc));
         Ok(turn)
+    }
+
+    /// Gives the answer of a slot, and runs on, as `resume` does, and leaves what was done in the memory of a turn: what that
+    /// said is gone. After `NoMemory`, its only fault, the machine waits for nothing.
+    ///
+    /// Condition: that of `resume`.
+    pub fn resume_into(
+        &mut self,
+        program: &Program,
+        facts: &Facts,
+        slot: u8,
+        answer: Answer,
+        turn: &mut Turn,
+    ) -> Result<(), NoMemory>
+        requires sound { IsSound program.now self.old }
+        requires waits { has slot (slots (control_of program.now self.old)) ≡ true }
+        ensures turn { OnOk result (give (facts_in facts.now) (control_of program.now self.old) slot answer (silent (names_of self.old)) ≡ left_by program.now self.new turn.new) }
+        ensures sound { OnOk result (IsSound program.now self.new) }
+        ensures asks { OnOk result (waiting (control_of program.now self.new) ≡ replaced slot (asks_in turn.new.asks) (waiting (control_of program.now self.old))) }
+        ensures least { OnOk result (TakesLeast (without slot (slots (control_of program.now self.old))) (asks_in turn.new.asks)) }
+        ensures rise { OnOk result (SlotsRise (asks_in turn.new.asks)) }
+        ensures stopped { OnErr result (control_of program.now self.new ≡ Done) }
+    {
+        mem::swap(&mut self.going.said, turn);
+        self.take_answer(program, &facts.known(), slot, answer)?;
+        mem::swap(&mut self.going.said, turn);
+        Ok(())
     }
 
     /// Gives the answer of a slot, and runs on, as `resume` does, in the memory of this machine: what it said before is gone.

@@ -1,12 +1,5 @@
-use Rattle.std.proofs.Common.{refl}
+use Rattle.ax_core.proofs.BegunLemmas.{begun_so}
 use Rattle.ax_core.proofs.callbacks.begin.Goals as goal
 
 pub returns : goal.returns
-returns c = record {
-  after = c.start_here.new.self;
-  there = refl;
-  turn = c.in_ok-turn.ensures.turn;
-  sound = c.in_ok-turn.ensures.sound;
-  asks = c.in_ok-turn.ensures.asks;
-  rise = c.in_ok-turn.ensures.rise;
-}
+returns c = begun_so c.args.program.now c.args.record.now c.start_into.new.self c.start_into.new.turn c.start_into.result c.start_into.ensures.turn c.start_into.ensures.sound c.start_into.ensures.asks c.start_into.ensures.rise
