@@ -81,6 +81,7 @@ impl Controller {
     }
 
     // The handler of a context begins.
+    #[inline(always)]
     fn run_start(&mut self, id: Id) -> Result<Effects, NoMemory>
         requires { MayStart self.old id }
         ensures ran { IfOk result (λ f. Has self.old.contexts id (λ h. f.ran ≡ ran.Start h.number)) }
@@ -101,6 +102,7 @@ impl Controller {
     }
 
     // It is given an answer.
+    #[inline(always)]
     fn run_reply(&mut self, id: Id, slot: u8, answer: Answer) -> Result<Effects, NoMemory>
         requires { MayReply self.old id slot answer }
         ensures ran { IfOk result (λ f. Has self.old.contexts id (λ h. f.ran ≡ ran.Reply h.number slot)) }
@@ -123,6 +125,7 @@ impl Controller {
     }
 
     // Its timers are set, its requests asked, and a reference given up. Where that was the last, its key goes on.
+    #[inline(always)]
     fn end_callback(&mut self, id: Id, ran: Ran, turn: Turn) -> Result<Effects, NoMemory>
         requires { IsReady self.old id turn }
         ensures ran { IfOk result (λ f. f.ran ≡ ran) }
@@ -137,6 +140,7 @@ impl Controller {
     }
 
     // A callback behind which its context waits on. The key is copied for what it did, and once for each request.
+    #[inline(always)]
     fn wait_on(&mut self, id: Id, ran: Ran, turn: Turn) -> Result<Effects, NoMemory>
         requires ready { IsReady self.old id turn }
         requires more { Has self.old.contexts id (λ h. 1 < h.count + length turn.asks) }
@@ -172,6 +176,7 @@ impl Controller {
     }
 
     // The last callback of a context. What it did bears the context's own key, and no copy.
+    #[inline(always)]
     fn end_context(&mut self, id: Id, ran: Ran, turn: Turn) -> Result<Effects, NoMemory>
         requires ready { IsReady self.old id turn }
         requires silent { turn.asks ≡ [] }
@@ -237,6 +242,7 @@ impl Controller {
 }
 
 // The handler of a context begins, in the place of a machine.
+#[inline(always)]
 fn begin(
     program: &Program,
     record: &mut Record,
@@ -253,6 +259,7 @@ fn begin(
 }
 
 // The handler of a context is given an answer.
+#[inline(always)]
 fn resume(
     program: &Program,
     record: &mut Record,
@@ -271,6 +278,7 @@ fn resume(
 
 // The handler of a live context begins.
 #[tactic(auto, using(crate::proofs::GetLemmas::has_begun))]
+#[inline(always)]
 fn begin_at(
     program: &Program,
     contexts: &mut Contexts<Record>,
@@ -287,6 +295,7 @@ fn begin_at(
 
 // The handler of a live context is given an answer.
 #[tactic(auto, using(crate::proofs::GetLemmas::has_resumed, crate::proofs::GetLemmas::is_live, crate::proofs::GetLemmas::waits_there))]
+#[inline(always)]
 fn resume_at(
     program: &Program,
     contexts: &mut Contexts<Record>,
