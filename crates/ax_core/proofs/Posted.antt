@@ -242,11 +242,11 @@ module _ (a : Controller) (m : MachineControl) (flow : IsFlow a) (x : StandsFor 
 
 -- ---- each stands once
 
-callback_itself : (r : Ran) → same_callback r r ≡ true
+pub callback_itself : (r : Ran) → same_callback r r ≡ true
 callback_itself (ran.Start n) = eq-eqb n n refl
 callback_itself (ran.Reply n slot) = rw (eq-eqb n n refl) (eq-eqb slot slot refl)
 
-callback_is : (r q : Ran) → same_callback r q ≡ true → r ≡ q
+pub callback_is : (r q : Ran) → same_callback r q ≡ true → r ≡ q
 callback_is (ran.Start n) (ran.Start k) e = ap (λ (i : ℕ). ran.Start i) (eqb-true n k e)
 callback_is (ran.Start n) (ran.Reply k slot) e = absurd (true_false (sym e))
 callback_is (ran.Reply n slot) (ran.Start k) e = absurd (true_false (sym e))

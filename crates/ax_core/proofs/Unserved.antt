@@ -313,7 +313,7 @@ times_append : (r : Asked) (xs ys : List Asked) → times same_asked r (xs ++ ys
 times_append r [] ys = omega arith
 times_append r (x ∷ xs) ys = omega (arith, times_append r xs ys)
 
-same_itself : (r : Asked) → same_asked r r ≡ true
+pub same_itself : (r : Asked) → same_asked r r ≡ true
 same_itself r = rw (eq-eqb r.context r.context refl) (eq-eqb r.slot r.slot refl)
 
 asked_both : (r q : Asked) → same_asked r q ≡ true → (r.context ≡ q.context) × (r.slot ≡ q.slot)
@@ -324,7 +324,7 @@ asked_both r q e = of (nat_eq r.context q.context) (nat_eq r.slot q.slot) refl r
     of true false x y e = absurd (true_false (sym e))
     of false c x y e = absurd (true_false (sym e))
 
-same_is_one : (r q : Asked) → same_asked r q ≡ true → r ≡ q
+pub same_is_one : (r q : Asked) → same_asked r q ≡ true → r ≡ q
 same_is_one r q e = ap₂ (λ (n s : ℕ). record { context = n; slot = s }) (asked_both r q e).0 (asked_both r q e).1
 
 -- what so many of some lists count, the first first

@@ -32,6 +32,7 @@ pub fn requests_stand_until_served(controller: &Controller)
         → Contains (requests_in controller.now shard) r ↔ IsUnserved controller.now m shard r }
     ensures all { (m : MachineControl) (r : Asked) → StandsFor controller.now m → Contains (all_requests controller.now) r ↔ IsToServe controller.now m r }
     ensures once { IsDistinct same_asked (all_requests controller.now) }
+    ensures same { (r q : Asked) → (same_asked r q ≡ true) ↔ (r ≡ q) }
 {
     numbers_law(&controller.contexts);
 }
@@ -46,6 +47,7 @@ pub fn callbacks_stand_until_run(controller: &Controller)
         → AllowedOn (rules_of (settings_of controller.now)) (Deliver key slot) m ↔ IsPosted controller.now (λ n. ran.Reply n slot) (m.controls key).owner }
     ensures to_run { (m : MachineControl) (r : AnyRan) → StandsFor controller.now m → Contains (callbacks_in controller.now) r ↔ IsToRun controller.now m r }
     ensures once { IsDistinct same_callback (callbacks_in controller.now) }
+    ensures same { (r q : AnyRan) → (same_callback r q ≡ true) ↔ (r ≡ q) }
 {
     numbers_law(&controller.contexts);
 }

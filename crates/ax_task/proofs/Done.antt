@@ -26,10 +26,10 @@ use Rattle.ax_task.specs.declared.engine.Engine.{Engine}
 use Rattle.ax_task.proofs.EngineLemmas.{true_false}
 
 -- an epoch was closed
-pub close_has : {E : Type 0} (e e' : Engine) → ShardsStay e e' → (k : Marker) (r : Result (Unit {0}) E) → OnOk r (Posts e.core e'.core []) → OnOk r ((m : MachineControl) → StandsFor e.core m → IdleBehind e.core e'.core k m)
-    → OnOk r (NoneNumbered e.core e'.core) → OnOk r ((m : MachineControl) → StandsFor e.core m → Makes e.core e'.core (Close (closing_of k)) m) → OnOk r (HasClosed e e' k)
-close_has e e' d k (Ok x) order idle numbers event = record { event = event; order = order; idle = idle; numbers = numbers; shards = d }
-close_has e e' d k (Err x) order idle numbers event = tt
+pub close_has : {E : Type 0} (e e' : Engine) → ShardsStay e e' → (k : Marker) (r : Result (Unit {0}) E) → OnOk r (Posts e.core e'.core []) → OnOk r (NoneNumbered e.core e'.core) → OnOk r ((m : MachineControl) → StandsFor e.core m → IdleBehind e.core e'.core k m)
+    → OnOk r ((m : MachineControl) → StandsFor e.core m → Makes e.core e'.core (Close (closing_of k)) m) → OnOk r (HasClosed e e' k)
+close_has e e' d k (Ok x) order numbers idle event = record { event = event; order = order; idle = idle; numbers = numbers; shards = d }
+close_has e e' d k (Err x) order numbers idle event = tt
 
 -- the text of a marker is told by controller, settings and shards
 pub block_as : (e e' : Engine) → ShardsStay e e' → e'.core ≡ e.core → (id : _) (text : List ℕ) → IsBlockOf e id text → IsBlockOf e' id text

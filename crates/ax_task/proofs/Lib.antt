@@ -7,7 +7,6 @@ pub mod Stopped
 pub mod Whole
 pub mod Parsed
 pub mod Telling
-pub mod Numbered
 pub mod KeptAsks
 pub mod Served
 pub mod Refining
@@ -34,3 +33,4 @@ pub mod Lesser
 pub mod Going
 pub mod Stepping
 pub mod Running
+pub mod Numbering

@@ -11,12 +11,12 @@ use Rattle.ax_execution.specs.OwedChanges.{is_free_on}
 use Rattle.ax_core.specs.declared.effects.Fired.{Fired}
 use Rattle.ax_core.specs.declared.effects.Effects.{Effects}
 use Rattle.ax_core.specs.declared.effects.Ran.TheVariants as ran
+use Rattle.ax_core.specs.Views.{wm_of}
 use Rattle.ax_core.specs.Epochs.{closing_of}
 use Rattle.ax_core.specs.Sound.{StandsFor}
 use Rattle.ax_core.specs.Events as core
 use Rattle.ax_core.specs.Numbers.{IsNumbered, NoneNumbered, NumbersBehind}
 use Rattle.ax_core.specs.Order.{Posts, RunsFirst, IdleBehind, begins_where, idle_in}
-use Rattle.ax_core.specs.Views.{wm_of}
 use Rattle.ax_task.specs.Engines.{ShardsStay}
 use Rattle.ax_task.specs.declared.engine.Engine.{Engine}
 

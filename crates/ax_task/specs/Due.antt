@@ -5,8 +5,8 @@ use Rattle.ax_input.specs.declared.event.Event.{Event as CodeEvent}
 use Rattle.ax_execution.specs.MachineControls.{MachineControl, in_flight_on}
 use Rattle.ax_execution.specs.ControlsAllowed.{NoneIsIdleOn}
 use Rattle.ax_core.specs.declared.controller.Controller.{Controller}
-use Rattle.ax_core.specs.Sound.{StandsFor, IsSound}
 use Rattle.ax_core.specs.Views.{settings_of}
+use Rattle.ax_core.specs.Sound.{StandsFor, IsSound}
 use Rattle.ax_task.specs.Exchanged.{LessIsLeft}
 use Rattle.ax_task.specs.declared.end.End.{End}
 use Rattle.ax_task.specs.declared.engine.Engine.{Engine}

@@ -15,10 +15,10 @@ use Rattle.ax_execution.specs.MachineControls.{MachineControl}
 use Rattle.ax_execution.specs.ControlsAllowed.{FirstIsFinishedOn}
 use Rattle.ax_core.specs.declared.settings.Settings.{Settings}
 use Rattle.ax_core.specs.declared.controller.Controller.{Controller}
+use Rattle.ax_core.specs.Views.{program_of, wm_of, timers_of}
 use Rattle.ax_core.specs.May.{may_admit, may_close}
 use Rattle.ax_core.specs.Sound.{StandsFor, IsSound}
 use Rattle.ax_core.specs.Events.{MayFireOn}
-use Rattle.ax_core.specs.Views.{program_of, timers_of, wm_of}
 use Rattle.ax_task.specs.Shards.{shard_count, held, out}
 use Rattle.ax_task.specs.Refined.{content_over, Refines}
 use Rattle.ax_task.specs.declared.engine.Engine.{Engine}

@@ -4,11 +4,11 @@ use Rattle.ax_text.specs.Functions.{upd}
 use Rattle.ax_buffer.specs.declared.items.Item.{Item}
 use Rattle.ax_buffer.specs.Buffer.{queue_of}
 use Rattle.ax_execution.specs.MachineControls.{MachineControl}
+use Rattle.ax_core.specs.Views.{buffer_of}
 use Rattle.ax_core.specs.Sound.{StandsFor}
 use Rattle.ax_core.specs.Events.{AsksAll, ServesAll}
 use Rattle.ax_core.specs.Numbers.{NoneNumbered}
 use Rattle.ax_core.specs.Order.{SendsFirst, Posts, replies_in, idle_in}
-use Rattle.ax_core.specs.Views.{buffer_of}
 use Rattle.ax_task.specs.Serving.{replies_to, content_after}
 use Rattle.ax_task.specs.Shards.{held, out, next_out, IsNext}
 use Rattle.ax_task.specs.Engines.{batch_of, order_of}
@@ -57,8 +57,8 @@ pub record IsSent (old new : Engine) (shard : ℕ) : Type 0 where
   pub kept : (s : ℕ) → held new.shards s ≡ held old.shards s
   pub sent : new.shards.sent ≡ old.shards.sent ++ shard ∷ []
   pub order : order_of new ≡ order_of old
-  pub idle : idle_in new.core ≡ idle_in old.core
   pub numbers : NoneNumbered old.core new.core
+  pub idle : idle_in new.core ≡ idle_in old.core
   pub settings : new.settings ≡ old.settings
   pub batch : batch_of new ≡ batch_of old
 
@@ -72,8 +72,8 @@ pub record IsBack (old new : Engine) (shard : ℕ) : Type 0 where
   pub replies : Posts old.core new.core (replies_in old.core (replies_to (out old.shards shard) (held old.shards shard)))
   pub served : held new.shards shard ≡ content_after (out old.shards shard) (held old.shards shard)
   pub others : (s : ℕ) → s ≢ shard → held new.shards s ≡ held old.shards s
-  pub idle : idle_in new.core ≡ idle_in old.core
   pub numbers : NoneNumbered old.core new.core
+  pub idle : idle_in new.core ≡ idle_in old.core
   pub settings : new.settings ≡ old.settings
   pub batch : batch_of new ≡ batch_of old
 

@@ -1,5 +1,5 @@
 -- What the bytes of an input and those of an output tell, and what an end tells.
-use Rattle.std.specs.Prelude.{◌≡◌, ℕ, List, [], ◌++◌, Bool, Option, Some}
+use Rattle.std.specs.Prelude.{◌≡◌, ◌<◌, ◌-◌, ◌^◌, ℕ, List, [], ◌∷◌, ◌++◌, map, length, Bool, Some}
 use Rattle.std.specs.Io.KnownBytes.{Appends}
 use Rattle.ax_base.specs.Outside.{AppendsSome}
 use Rattle.ax_text.specs.Programs.{Program}
@@ -10,16 +10,18 @@ use Rattle.ax_input.specs.PlainEntries.{IsShort}
 use Rattle.ax_execution.specs.MachineControls.{MachineControl, in_flight_on}
 use Rattle.ax_execution.specs.ControlsAllowed.{NoneIsIdleOn}
 use Rattle.ax_core.specs.declared.controller.Controller.{Controller}
-use Rattle.ax_core.specs.Numbers.{NumbersWith}
+use Rattle.ax_core.specs.Numbers.{Call, AreCalls, numbers_of, numbers_from}
 use Rattle.ax_core.specs.Sound.{StandsFor}
 use Rattle.ax_task.specs.Sections.{IsUnfinished}
 use Rattle.ax_task.specs.Parse.{Parsed, BadProgram, Runs, Stream, Ending, Clean, section_in, parse}
 use Rattle.ax_task.specs.Clause.{Holds, AreWholeLines}
 use Rattle.ax_task.specs.Due.{IsFree}
-use Rattle.ax_task.specs.Things.{NothingLeft}
+use Rattle.ax_task.specs.Things.{NothingLeft, StepDoes}
+use Rattle.ax_task.specs.Tasks.{Outer}
 use Rattle.ax_task.specs.Running.{State}
 use Rattle.ax_task.specs.declared.end.End.{End}
 use Rattle.ax_task.specs.declared.end.End.TheVariants as end
+use Rattle.ax_task.specs.declared.step.Step.TheVariants as step
 
 -- an input that says a program, for whose events this list may be written as a whole, where there are m key groups
 abbrev pub MayEndWith : ℕ → Bool → Parsed → List Entry → Type 0
@@ -102,6 +104,23 @@ pub record LeftNothing (t : State) (e : End) : Type 0 where
   pub none : NothingGoesOn t.engine.core
   pub gathered : t.gathered ≡ []
 
--- what is between these two is a call of the controller that made a context with the next number, or none
-abbrev pub IsCall : Controller → Controller → Type 0
-IsCall a b = (n : Option ℕ) × NumbersWith a b n
+-- a step of a task: what its source and its sink told before it and behind it, and the task that it leaves
+pub record Stepped : Type 0 where
+  pub before : Outer
+  pub behind : Outer
+  pub leaves : State
+
+-- steps in their order, each of which did a thing
+abbrev pub AreSteps : State → List Stepped → Type 0
+AreSteps t [] = Unit {0}
+AreSteps t (s ∷ ss) = StepDoes t s.leaves s.before s.behind step.Went × AreSteps s.leaves ss
+
+-- as calls they leave these controllers, one after the other
+pub record AsCalls (t : State) (steps : List Stepped) : Type 0 where
+  pub calls : List Call
+  pub leaves : map (λ c. c.leaves) calls ≡ map (λ s. s.leaves.engine.core) steps
+  pub are : AreCalls t.engine.core calls
+
+-- the contexts that calls made are counted from 1 on
+abbrev pub AreCounted : List Call → Type 0
+AreCounted calls = length (numbers_of calls) < 2 ^ 64 - 1 → numbers_of calls ≡ numbers_from 1 (length (numbers_of calls))

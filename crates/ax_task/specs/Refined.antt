@@ -16,10 +16,10 @@ use Rattle.ax_execution.specs.Allowed.{IsRun}
 use Rattle.ax_execution.specs.MachineControls.{control_of_machine}
 use Rattle.ax_core.specs.declared.settings.Settings.{Settings}
 use Rattle.ax_core.specs.declared.controller.Controller.{Controller}
+use Rattle.ax_core.specs.Views.{program_of, settings_of, contexts_of}
 use Rattle.ax_core.specs.Flow.{shard_of, out_of}
 use Rattle.ax_core.specs.Sound.{rules_of, StandsFor}
 use Rattle.ax_core.specs.Events.{Asks, names_in, key_in}
-use Rattle.ax_core.specs.Views.{program_of, settings_of, contexts_of}
 use Rattle.ax_task.specs.Serving.{Content}
 
 -- what the states of keys hold, each in the shard of its key

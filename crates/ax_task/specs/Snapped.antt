@@ -3,10 +3,10 @@ use Rattle.ax_text.specs.KeyStates.{KeyState}
 use Rattle.ax_machine.specs.Entries.{Key}
 use Rattle.ax_machine.specs.Blocks.{Part}
 use Rattle.ax_time.specs.Timers.{times_of}
+use Rattle.ax_core.specs.Views.{timers_of}
 use Rattle.ax_task.specs.Shards.{held}
 use Rattle.ax_task.specs.Refined.{content_over}
 use Rattle.ax_task.specs.declared.engine.Engine.{Engine}
-use Rattle.ax_core.specs.Views.{timers_of}
 
 abbrev pub state_at : Engine → Key → KeyState
 state_at e k = record { cells = content_over e.settings (held e.shards) k; times = times_of (timers_of e.core) k }

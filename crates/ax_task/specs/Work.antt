@@ -25,8 +25,8 @@ use Rattle.ax_execution.specs.KeyControls.{KeyControl}
 use Rattle.ax_execution.specs.MachineControls.{control_work}
 use Rattle.ax_core.specs.declared.record.Record.{Record}
 use Rattle.ax_core.specs.declared.controller.Controller.{Controller}
+use Rattle.ax_core.specs.Views.{program_of, settings_of, contexts_of, accounts_of, buffer_of, mails_of, timers_of, epochs_of}
 use Rattle.ax_core.specs.Contexts.{answer_in}
-use Rattle.ax_core.specs.Views.{program_of, mails_of, contexts_of, accounts_of, timers_of, epochs_of, buffer_of, settings_of}
 use Rattle.ax_task.specs.Serving.{Content}
 
 -- what the controller holds of a context and of what waits, as the machine has it; each epoch counts as 0

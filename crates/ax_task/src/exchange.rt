@@ -1,10 +1,10 @@
 //! Requests go to shards, and replies come back.
 ghost use Rattle.std.specs.Prelude.{◌≡◌, ◌<◌, ◌↔◌, ℕ, [], length, true, false, IsTrue, IfOk, IfSome, IfNone, OnOk};
 ghost use Rattle.ax_buffer.specs.Buffer.{queue_of};
+ghost use Rattle.ax_core.specs.Views.{buffer_of};
 ghost use Rattle.ax_task.specs.Shards.{held, out, next_out, Stays};
 ghost use Rattle.ax_task.specs.Engines.{IsReady, MovesOn, batch_of};
 ghost use Rattle.ax_task.specs.Exchanged.{IsHomeWith, LessIsLeft, NothingWaits, NoneHomeWith, NoneOut, IsSent, IsBack, Exchanges};
-ghost use Rattle.ax_core.specs.Views.{buffer_of};
 
 use crate::engine::Engine;
 use ax_base::NoMemory;

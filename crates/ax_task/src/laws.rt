@@ -7,18 +7,21 @@ ghost use Rattle.ax_machine.specs.Sync.{sync};
 ghost use Rattle.ax_input.specs.PlainEntries.{IsRun};
 ghost use Rattle.ax_task.specs.Parse.{Parsed, BadProgram, Stream, Clean, Fault, Runs, parse};
 ghost use Rattle.ax_task.specs.Clause.{Holds, RunEnds, Stops};
+ghost use Rattle.ax_core.specs.Numbers.{NothingNumbered};
 ghost use Rattle.ax_task.specs.Tasks.{Outer};
 ghost use Rattle.ax_task.specs.Causes.{StepIsCaused};
 ghost use Rattle.ax_task.specs.Running.{State};
 ghost use Rattle.ax_task.specs.Engines.{IsReady};
 ghost use Rattle.ax_task.specs.Exchanged.{NothingWaits};
 ghost use Rattle.ax_task.specs.Due.{IsFree};
-ghost use Rattle.ax_task.specs.Things.{Does, NoWork, StepDoes};
-ghost use Rattle.ax_task.specs.Laws.{IsCall, MayEndWith, MayHaveWritten, TextsTell, OfWholeLines, PartOf, WroteWhatIsRead, WroteAPart, WroteAll, IsFoundEnd, NothingGoesOn, LeftNothing};
+ghost use Rattle.ax_task.specs.Things.{NoWork, StepDoes};
+ghost use Rattle.ax_task.specs.Laws.{MayEndWith, MayHaveWritten, TextsTell, OfWholeLines, PartOf, WroteWhatIsRead, WroteAPart, WroteAll, IsFoundEnd, NothingGoesOn, LeftNothing, Stepped, AreSteps, AsCalls, AreCounted};
 ghost use Rattle.ax_task.specs.declared.engine.Engine.{Engine as AnyEngine};
 ghost use Rattle.ax_task.specs.declared.end.End.{End};
 ghost use Rattle.ax_task.specs.declared.end.End.TheVariants as end;
 ghost use Rattle.ax_task.specs.declared.step.Step.TheVariants as step;
+
+use ax_core::laws::contexts_are_counted;
 
 /// Where the bytes of an input say a program and events, they are a run: the program is valid, and lines spell the events.
 pub fn parsed_input_is_a_run()
@@ -71,8 +74,12 @@ pub fn tasks_without_work_are_at_rest()
     ensures none { (e : AnyEngine) → IsReady e → NoWork e → NothingWaits e → NothingGoesOn e.core }
 {}
 
-/// Each thing that a step does is a call of the controller by which at most one context is made, with the next number, or changes nothing
-/// of that. So the contexts of a task are counted, as `contexts_are_counted` of `ax_core` says of calls one after another.
-pub fn steps_are_calls()
-    ensures { (t u : State) (old now : Outer) → Does t u old now → IsCall t.engine.core u.engine.core }
-{}
+/// Each thing that a step does makes a context with the next number that no context in flight has, or none. So steps are calls
+/// of a controller, and the contexts of a task get the numbers 1, 2, 3 and so on in the order in which they are made, where none
+/// was made in its controller before, while there are fewer than `2^64 - 1` of them.
+pub fn steps_number_contexts()
+    ensures calls { (t : State) (steps : List Stepped) → AreSteps t steps → AsCalls t steps }
+    ensures counted { (t : State) (steps : List Stepped) → NothingNumbered t.engine.core → AreSteps t steps → (run : AsCalls t steps) × AreCounted run.calls }
+{
+    contexts_are_counted();
+}

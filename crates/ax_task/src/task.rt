@@ -11,6 +11,7 @@ ghost use Rattle.ax_lang.specs.Shown.{shown_program};
 ghost use Rattle.ax_core.specs.declared.settings.Settings.{Settings as AnySettings};
 ghost use Rattle.ax_core.specs.declared.controller.Controller.{Controller as AnyController};
 ghost use Rattle.ax_core.specs.Sound.{InRange};
+ghost use Rattle.ax_core.specs.Views.{program_of};
 ghost use Rattle.ax_task.specs.Parse.{parse, stream_of, first_last};
 ghost use Rattle.ax_task.specs.Reads.{end_in_section, is_stopped};
 ghost use Rattle.ax_task.specs.Clause.{WritesLawful, StreamEnds, RunEnds, Stops, EndCounts};
@@ -22,7 +23,6 @@ ghost use Rattle.ax_task.specs.Things.{Does, Rests, Ends, Breaks, ByEnd, ByStop,
 ghost use Rattle.ax_task.specs.Tasks.{Outer, From, MayRead, IsFound, Finds, HasEnded};
 ghost use Rattle.ax_task.specs.Tasks as tasks;
 ghost use Rattle.ax_task.specs.Causes.{IsAtRest, EndsAtRest, EndWrites, DidCounts, StepIsCaused};
-ghost use Rattle.ax_core.specs.Views.{program_of};
 ghost use Rattle.ax_task.specs.Unused.{IsUnused};
 ghost use Rattle.ax_task.specs.Running.{State as AnyState, state_of, has_ended, found_of, controller_of, took_event, start, IsFresh, IsSteady, StaysSteady, IsRunning, DidLeaves, GoesOn, ComesNearer, is_end, step_of, RunEndsAs};
 ghost use Rattle.ax_task.specs.declared.end.End.{End as AnyEnd};

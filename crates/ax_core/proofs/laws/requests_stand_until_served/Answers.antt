@@ -1,4 +1,7 @@
-use Rattle.ax_core.proofs.Unserved.{unserved, queued_or_out, stands_there, allowed_where, requests_once}
+use Rattle.std.proofs.Common.{◌≡◌, true, subst}
+use Rattle.ax_core.specs.Order.{Asked}
+use Rattle.ax_core.specs.Requests.{same_asked}
+use Rattle.ax_core.proofs.Unserved.{unserved, queued_or_out, stands_there, allowed_where, requests_once, same_itself, same_is_one}
 use Rattle.ax_core.proofs.AllRequests.{all_to_serve, to_serve_all}
 use Rattle.ax_core.proofs.laws.requests_stand_until_served.Goals as goal
 
@@ -16,3 +19,6 @@ returns-clause-once c = requests_once c.args.controller.now c.requires.sound.flo
 pub returns-clause-all : goal.returns-clause-all
 returns-clause-all c m r x =
     (all_to_serve c.args.controller.now m c.requires.sound.flow x r, to_serve_all c.args.controller.now m c.requires.sound.ranges c.requires.sound.flow x r)
+
+pub returns-clause-same : goal.returns-clause-same
+returns-clause-same c r q = (same_is_one r q, λ e. subst (λ (v : Asked). same_asked r v ≡ true) e (same_itself r))

@@ -63,4 +63,4 @@ returns-in-Barrier-clause-taken c =
     subst (λ (v : CodeEvent). OnOk c.close.result (HasTaken e e' v)) (sym c.in-Barrier.is)
     (subst (λ (z : ℤ). OnOk c.close.result (HasClosed e e' (marker.Barrier z))) same
     (subst (λ (k : Marker). OnOk c.close.result (HasClosed e e' k)) c.barrier.ensures
-    (close_has e e' (shards_stay _ _ refl refl refl) c.barrier.result c.close.result c.close.ensures.order c.close.ensures.idle c.close.ensures.number c.close.ensures.event)))
+    (close_has e e' (shards_stay _ _ refl refl refl) c.barrier.result c.close.result c.close.ensures.order c.close.ensures.number c.close.ensures.idle c.close.ensures.event)))

@@ -24,4 +24,4 @@ returns-then-is_greater-clause-marked c =
     let e' = record e { core = c.close.new.self } in
     subst (λ (b : Bool). OnOk c.close.result (HasMarked b e e' c.args.time.now)) (sym (sym c.is_greater.ensures ∙ c.if-is_greater.true))
     (subst (λ (k : Marker). OnOk c.close.result (HasClosed e e' k)) c.mark.ensures
-    (close_has e e' (shards_stay _ _ refl refl refl) c.mark.result c.close.result c.close.ensures.order c.close.ensures.idle c.close.ensures.number c.close.ensures.event))
+    (close_has e e' (shards_stay _ _ refl refl refl) c.mark.result c.close.result c.close.ensures.order c.close.ensures.number c.close.ensures.idle c.close.ensures.event))
