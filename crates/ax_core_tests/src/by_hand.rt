@@ -1,7 +1,7 @@
 //! A controller driven by hand: what each call tells.
 ghost use Rattle.ax_core_tests.specs.Hands.{IsReady};
 
-use crate::calls::{call, make};
+use crate::calls::make;
 use crate::hand::Hand;
 use crate::lines::kept;
 use crate::programs::program;
@@ -77,10 +77,10 @@ fn row_or_work(rt: &impl Abort, hand: &mut Hand, next: i64, told: &mut String) -
     ensures { IsReady hand.new }
 {
     let row = format!(in hand.alloc; "r a {next} {next}").expect(rt, "memory");
-    if next <= 20 && call(rt, hand, row.as_str(), told).is_some() {
+    if next <= 20 && make(rt, hand, row.as_str(), told).is_some() {
         return next.wrapping_add(1);
     }
-    make(rt, hand, "M;S;d 5", told);
+    let _event = make(rt, hand, "M;S;D", told);
     next
 }
 
@@ -120,7 +120,7 @@ fn first_wrong(rt: &impl Abort, alloc: Global, text: &str, table: &str) -> Strin
         let in_flight = parts.next().unwrap_or("").parse::<u32>().unwrap_or(0);
         let mut told = String::new(alloc);
         let mut hand = hand_for(rt, alloc, text, serial, in_flight);
-        make(rt, &mut hand, parts.next().unwrap_or(""), &mut told);
+        let _event = make(rt, &mut hand, parts.next().unwrap_or(""), &mut told);
         if told.as_str() != parts.next().unwrap_or("") {
             return told;
         }

@@ -4,7 +4,7 @@
 //!
 //! - `m` runs a mail, if one waits, and `M` all that wait.
 //! - `s SHARD MAX` takes a batch of a shard that is home, `S` one of each, and `t SHARD MAX` one more of a shard, home or not.
-//! - `d SHARD` delivers all that is out of a shard, and `l SHARD COUNT` the last replies alone.
+//! - `d SHARD` delivers all that is out of a shard, `D` of each, and `l SHARD COUNT` the last replies alone.
 //! - `f` lets a key fire, and `k` takes the next marker.
 //! - `a SHARD` asks how much a shard's queue holds, `n` how many are in flight, and `v` the limit and the watermark.
 //!
@@ -141,6 +141,16 @@ fn batches(rt: &impl Abort, hand: &mut Hand, told: &mut String)
     }
 }
 
+// All that is out of each shard.
+fn deliveries(hand: &mut Hand)
+    requires { IsReady hand.old }
+    ensures { IsReady hand.new }
+{
+    for shard in 0..8 {
+        let _count = hand.deliver(shard);
+    }
+}
+
 // The marker that is next, as its line or the head of its block.
 fn marker(rt: &impl Abort, hand: &mut Hand, told: &mut String)
     requires { IsReady hand.old }
@@ -183,6 +193,7 @@ fn call_letter(
         "d" => {
             let _count = hand.deliver(shard);
         }
+        "D" => deliveries(hand),
         "l" => {
             let _count = hand
                 .deliver_last(shard, count as usize)
@@ -199,8 +210,8 @@ fn call_letter(
     }
 }
 
-/// One call. The event that it took, if it took one.
-pub fn call(rt: &impl Abort, hand: &mut Hand, line: &str, told: &mut String) -> Option<Event>
+// One call. The event that it took, if it took one.
+fn call(rt: &impl Abort, hand: &mut Hand, line: &str, told: &mut String) -> Option<Event>
     requires { IsReady hand.old }
     ensures { IsReady hand.new }
 {
@@ -218,12 +229,16 @@ pub fn call(rt: &impl Abort, hand: &mut Hand, line: &str, told: &mut String) -> 
     }
 }
 
-/// Calls that `;` parts.
-pub fn make(rt: &impl Abort, hand: &mut Hand, calls: &str, told: &mut String)
+/// Calls that `;` parts. The event that they took, and the last where they took several.
+pub fn make(rt: &impl Abort, hand: &mut Hand, calls: &str, told: &mut String) -> Option<Event>
     requires { IsReady hand.old }
     ensures { IsReady hand.new }
 {
+    let mut taken = None;
     for line in calls.split(';') {
-        let _event = call(rt, hand, line, told);
+        if let Some(event) = call(rt, hand, line, told) {
+            taken = Some(event);
+        }
     }
+    taken
 }

@@ -4,7 +4,7 @@ ghost use Rattle.ax_lang.specs.Shown.{shown_kinds};
 ghost use Rattle.ax_plain.specs.Plain.{ThreadFits};
 ghost use Rattle.ax_core_tests.specs.Hands.{IsReady};
 
-use crate::calls::{call, make};
+use crate::calls::make;
 use crate::hand::Hand;
 use crate::lines::{count, differs, is_early};
 use crate::programs::program;
@@ -34,10 +34,10 @@ fn letter_of(draws: &mut u64, word: &str) -> char {
     }
 }
 
-// Rows, few watermarks and fewer barriers among what is to be done for them.
-const LETTERS: &str = "rrrrrrrrrrwwbmmmmmmMMMMsssSSSSttdddddlffkkk";
+// Rows, watermarks and few barriers among what is done for them: one call, or all that can be done at once (`W`).
+const LETTERS: &str = "rrrrrrrrrrrrwwwbmMsStdDlffkkkWWWWWWWWWW";
 
-// A call at a time.
+// Calls at a time, with one event at most.
 fn drawn_line(rt: &impl Abort, alloc: Global, draws: &mut u64, time: i64) -> String {
     let letter = letter_of(draws, LETTERS);
     let key = letter_of(draws, "abc");
@@ -46,6 +46,7 @@ fn drawn_line(rt: &impl Abort, alloc: Global, draws: &mut u64, time: i64) -> Str
     let line = match letter {
         'r' => format!(in alloc; "r {key} {time} {number}"),
         'w' | 'b' => format!(in alloc; "{letter} {time}"),
+        'W' => format!(in alloc; "f;M;S;D;M;S;D;M;k"),
         _ => format!(in alloc; "{letter} {shard} {}", number % 4),
     };
     line.expect(rt, "memory")
@@ -87,7 +88,7 @@ fn both_take(
     let mut draws = seed;
     for time in 0..calls {
         let line = drawn_line(rt, alloc, &mut draws, time);
-        let event = call(rt, hand, line.as_str(), told);
+        let event = make(rt, hand, line.as_str(), told);
         take_plain(rt, thread, program, &event, out);
     }
 }
@@ -98,7 +99,7 @@ fn finish(rt: &impl Abort, hand: &mut Hand, told: &mut String, turns: u32)
     ensures { IsReady hand.new }
 {
     for _turn in 0..turns {
-        make(rt, hand, "f;k;M;S;d 0;d 1;d 2;d 3", told);
+        let _event = make(rt, hand, "f;k;M;S;D", told);
     }
 }
 
@@ -116,11 +117,12 @@ fn wrong(rt: &impl Abort, alloc: Global, told: &str, written: &str, serial: bool
     let markers = count(told, ';', "w ,s ");
     let barriers = count(told, ';', "s ");
     let fired = count(told, ';', "F");
-    if lines < 3000 || markers < 400 || barriers < 100 || fired < 3000 {
-        let few = format_args!(
-            "{lines} lines, {markers} markers, {barriers} barriers, {fired} fired"
-        );
-        write!(wrong, "{few}").expect(rt, "memory");
+    if lines < 200 || markers < 80 || barriers < 15 || fired < 100 {
+        write!(
+            wrong,
+            "few: {lines} lines, {markers} markers, {barriers} barriers, {fired} fired"
+        )
+        .expect(rt, "memory");
     }
     wrong
 }
@@ -158,7 +160,7 @@ fn drawn_wrong(
         seed,
         calls,
     );
-    finish(rt, &mut hand, &mut told, 1000);
+    finish(rt, &mut hand, &mut told, 500);
     if hand.core.in_flight() != 0 {
         write!(told, "in flight").expect(rt, "memory");
     }
@@ -182,7 +184,7 @@ fn drawn_calls(rt: HostRuntime) {
             for serial in [true, false] {
                 seed = seed.wrapping_add(1);
                 let wrong = drawn_wrong(&rt, alloc, text, serial, in_flight, seed, 2000);
-                println!(&rt; "{serial} {in_flight} {}", wrong.as_str()).expect(&rt, "x");
+                assert_eq!(rt; wrong.as_str(), "");
             }
         }
     }
