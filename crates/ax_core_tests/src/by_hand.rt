@@ -71,17 +71,29 @@ const TIMED_BARRIERS: &str = "\
 serial|10|r a 1 3;M;w 6;b 1;k;f;b 1;M;k;b 1;r a 7 1;k;r a 7 9|A1;S1!;o a 1 1;shut;-;F2a@3/6;shut;S2!;o a 2 3 6;w 6;full;s 1 6;A3;
 parallel|10|r a 1 3;M;w 6;b 1;w 9;k;f;k;M;k;k|A1;S1!;o a 1 1;shut;-;F2a@3/6;-;S2!;o a 2 3 6;w 6;s 1 6;";
 
+// The next row comes, where there is one and it may.
+fn next_row(rt: &impl Abort, hand: &mut Hand, next: i64, told: &mut String) -> bool
+    requires { IsReady hand.old }
+    ensures { IsReady hand.new }
+{
+    if next > 20 {
+        return false;
+    }
+    let row = format!(in hand.alloc; "r a {next} {next}").expect(rt, "memory");
+    make(rt, hand, row.as_str(), told).is_some()
+}
+
 // The next row where one may come; else all mails, all batches, and what was answered.
 fn row_or_work(rt: &impl Abort, hand: &mut Hand, next: i64, told: &mut String) -> i64
     requires { IsReady hand.old }
     ensures { IsReady hand.new }
 {
-    let row = format!(in hand.alloc; "r a {next} {next}").expect(rt, "memory");
-    if next <= 20 && make(rt, hand, row.as_str(), told).is_some() {
-        return next.wrapping_add(1);
+    if next_row(rt, hand, next, told) {
+        next.wrapping_add(1)
+    } else {
+        let _event = make(rt, hand, "M;S;D", told);
+        next
     }
-    let _event = make(rt, hand, "M;S;D", told);
-    next
 }
 
 // So many turns, from the first row on.

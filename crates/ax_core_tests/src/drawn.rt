@@ -162,7 +162,7 @@ fn drawn_wrong(
     );
     finish(rt, &mut hand, &mut told, 500);
     if hand.core.in_flight() != 0 {
-        write!(told, "in flight").expect(rt, "memory");
+        write!(told, "o a in flight;").expect(rt, "memory");
     }
     let written = str::from_utf8(out.bytes()).unwrap_or("?");
     wrong(rt, alloc, told.as_str(), written, serial)
