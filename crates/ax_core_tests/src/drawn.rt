@@ -106,7 +106,7 @@ fn finish(rt: &impl Abort, hand: &mut Hand, told: &mut String, turns: u32)
 // What is wrong with what was told beside what the plain thread wrote, if anything.
 fn wrong(rt: &impl Abort, alloc: Global, told: &str, written: &str, serial: bool) -> String {
     let mut wrong = String::new(alloc);
-    let part = differs(rt, alloc, told, written, serial);
+    let part = differs(rt, alloc, told, written, '\n', serial);
     write!(wrong, "{part}").expect(rt, "memory");
     for head in "o a ;o b ;o c ".split(';') {
         if is_early(rt, alloc, told, written, head) {
@@ -117,7 +117,7 @@ fn wrong(rt: &impl Abort, alloc: Global, told: &str, written: &str, serial: bool
     let markers = count(told, ';', "w ,s ");
     let barriers = count(told, ';', "s ");
     let fired = count(told, ';', "F");
-    if lines < 200 || markers < 80 || barriers < 15 || fired < 100 {
+    if lines < 100 || markers < 40 || barriers < 8 || fired < 50 {
         write!(
             wrong,
             "few: {lines} lines, {markers} markers, {barriers} barriers, {fired} fired"
@@ -160,7 +160,7 @@ fn drawn_wrong(
         seed,
         calls,
     );
-    finish(rt, &mut hand, &mut told, 500);
+    finish(rt, &mut hand, &mut told, 300);
     if hand.core.in_flight() != 0 {
         write!(told, "o a in flight;").expect(rt, "memory");
     }
@@ -180,12 +180,33 @@ fn drawn_calls(rt: HostRuntime) {
     let alloc = rt.alloc();
     let mut seed: u64 = 7;
     for text in PROGRAMS.lines() {
-        for in_flight in [1, 2, 5, 60] {
+        for in_flight in [1, 5, 60] {
             for serial in [true, false] {
                 seed = seed.wrapping_add(1);
-                let wrong = drawn_wrong(&rt, alloc, text, serial, in_flight, seed, 2000);
+                let wrong = drawn_wrong(&rt, alloc, text, serial, in_flight, seed, 1000);
                 assert_eq!(rt; wrong.as_str(), "");
             }
         }
+    }
+}
+
+// What is told and what is written, each line with another difference.
+const DIFFERENT: &str = "\
+o a 1;w 5;|w 5;o a 1;
+w 5;o a 1;|o a 1;w 5;
+w 5;|o a 1;w 5;
+o a 1;o a 2;|o a 2;o a 1;
+o a 1;s 1 5;o b 1;|o b 1;o a 1;s 1 5;
+o c 1;w 5;|o c 1;w 6;";
+
+#[test]
+fn differences_are_seen(rt: HostRuntime) {
+    let alloc = rt.alloc();
+    for row in DIFFERENT.lines() {
+        let mut parts = row.split('|');
+        let told = parts.next().unwrap_or("");
+        let written = parts.next().unwrap_or("");
+        let part = differs(&rt, alloc, told, written, ';', true);
+        assert!(rt; part.len() > 0);
     }
 }

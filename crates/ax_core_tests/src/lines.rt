@@ -44,17 +44,18 @@ fn views(serial: bool) -> &'static str {
     }
 }
 
-/// The part in which what was told differs from what was written, if any.
+/// The part in which what was told differs from what was written, if any. Each line that was written ends with this letter.
 pub fn differs(
     rt: &impl Abort,
     alloc: Global,
     told: &str,
     written: &str,
+    end: char,
     serial: bool,
 ) -> &'static str {
     for heads in views(serial).split(';') {
         let ours = kept(rt, alloc, told, ';', heads);
-        let theirs = kept(rt, alloc, written, '\n', heads);
+        let theirs = kept(rt, alloc, written, end, heads);
         if ours.as_str() != theirs.as_str() {
             return heads;
         }
