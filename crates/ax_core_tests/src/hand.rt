@@ -116,6 +116,17 @@ impl Hand {
         self.core.next_marker()
     }
 
+    /// How many requests a shard's queue holds: none where there is no such shard.
+    pub fn active(&self, shard: u16) -> u32
+        requires { IsReady self.now }
+    {
+        if (shard as usize) < self.served.len() {
+            self.core.active_len(shard)
+        } else {
+            0
+        }
+    }
+
     /// Takes a batch of a shard that is home, and serves it; how many requests it has.
     pub fn batch(&mut self, shard: u16, max: u32) -> Result<usize, NoMemory>
         requires { IsReady self.old }

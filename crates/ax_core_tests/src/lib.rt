@@ -4,8 +4,12 @@
 #[cfg(test)]
 mod by_hand;
 #[cfg(test)]
+mod calls;
+#[cfg(test)]
 mod drawn;
 pub mod hand;
+#[cfg(test)]
+mod lines;
 #[cfg(test)]
 mod programs;
 pub mod states;

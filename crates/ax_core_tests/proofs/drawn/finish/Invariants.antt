@@ -3,6 +3,3 @@ use Rattle.ax_core_tests.proofs.drawn.finish.Given as goal
 
 abbrev pub invariant-loop-turn : goal.invariant-loop-turn
 invariant-loop-turn g l = IsReady l.hand
-
-abbrev pub invariant-loop-shard : goal.invariant-loop-shard
-invariant-loop-shard g l = IsReady l.hand

@@ -1,5 +1,5 @@
 use Rattle.ax_core_tests.specs.Hands.{IsReady}
-use Rattle.ax_core_tests.proofs.by_hand.told_by.Given as goal
+use Rattle.ax_core_tests.proofs.calls.make.Given as goal
 
 abbrev pub invariant-loop-line : goal.invariant-loop-line
 invariant-loop-line g l = record {
