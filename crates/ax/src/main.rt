@@ -1,9 +1,6 @@
 //! The program: standard input to standard output, and one line to standard error.
 #![tactic(auto)]
 
-#[cfg(test)]
-mod tests;
-
 use ax_base::{ReadSource, WriteSink};
 use ax_cli::run_program;
 use std::env::Env;

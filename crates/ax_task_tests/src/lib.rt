@@ -10,4 +10,6 @@ pub mod inputs;
 #[cfg(test)]
 mod orders;
 #[cfg(test)]
+mod steps;
+#[cfg(test)]
 mod ways;

@@ -11,6 +11,7 @@ const ROWS: &str = "\
 ||
 r a 1 5;r a 4 7;|o a 5;o a 12;|
 r a 1 5;r b 2 1;r a 3 7;|o a 5;o b 1;o a 12;|
+r a 1 1;r a 2 2;r a 3 3;r a 4 4;r a 5 5;r a 6 6;r a 7 7;r a 8 8;r a 9 9;r a 10 10;r a 11 11;r a 12 12;r a 13 13;r a 14 14;r a 15 15;r a 16 16;r a 17 17;r a 18 18;r a 19 19;r a 20 20;|o a 1;o a 3;o a 6;o a 10;o a 15;o a 21;o a 28;o a 36;o a 45;o a 55;o a 66;o a 78;o a 91;o a 105;o a 120;o a 136;o a 153;o a 171;o a 190;o a 210;|
 r a 1 5;r a 2 7|o a 5;o a 12;|
 r a 1 9223372036854775807;r a 2 1;|o a 9223372036854775807;o a -9223372036854775808;|
 r a 1 -9223372036854775808;r a 2 -1;|o a -9223372036854775808;o a 9223372036854775807;|
@@ -92,7 +93,9 @@ fn keys_of_256_letters(rt: HostRuntime) -> Result<(), Fail> {
     let key = "k".repeat(rt.alloc(), 256)?;
     let line = format!(in rt.alloc(); "r {key} 1 5\nr k{key} 1 5\n")?;
     let out = format!(in rt.alloc(); "o {key} 5\n")?;
-    expect_events(&rt, &line, &out, input(10, 2))
+    expect_events(&rt, &line, &out, input(10, 2))?;
+    let longer = format!(in rt.alloc(); "r k{key} 1 5\n")?;
+    expect_events(&rt, &longer, "", input(9, 2))
 }
 
 // The fault of a line with this byte as the key, where it is one.

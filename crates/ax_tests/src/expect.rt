@@ -88,20 +88,7 @@ fn expect_under(
     Ok(())
 }
 
-/// Runs an input of these pieces with no words, and compares all that the run leaves. Keys may overtake each other between
-/// two markers.
-pub fn expect(
-    rt: &(impl Abort + AllocGlobal),
-    pieces: &[&[u8]],
-    out: &str,
-    status: Status,
-) -> Result<(), Fail> {
-    let bytes = joined(rt.alloc(), pieces)?;
-    let sorted = by_key(rt.alloc(), out.as_bytes())?;
-    expect_under(rt, &[], bytes.as_slice(), sorted.as_str(), status)
-}
-
-// The same, and under each of `WORDS` too.
+// Runs these bytes with no words and under each of `WORDS`.
 fn expect_everywhere(
     rt: &(impl Abort + AllocGlobal),
     bytes: &[u8],
@@ -114,6 +101,18 @@ fn expect_everywhere(
         expect_under(rt, words, bytes, sorted.as_str(), status)?;
     }
     Ok(())
+}
+
+/// Runs an input of these pieces with no words and under each of `WORDS`, and compares all that each run leaves. Keys may
+/// overtake each other between two markers.
+pub fn expect(
+    rt: &(impl Abort + AllocGlobal),
+    pieces: &[&[u8]],
+    out: &str,
+    status: Status,
+) -> Result<(), Fail> {
+    let bytes = joined(rt.alloc(), pieces)?;
+    expect_everywhere(rt, bytes.as_slice(), out.as_bytes(), status)
 }
 
 /// The same for events behind the program that counts.

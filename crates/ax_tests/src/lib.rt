@@ -15,6 +15,8 @@ mod limits;
 #[cfg(test)]
 mod outside;
 #[cfg(test)]
+mod process;
+#[cfg(test)]
 mod programs;
 #[cfg(test)]
 mod timers;

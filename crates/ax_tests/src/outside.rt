@@ -39,28 +39,6 @@ fn refused_words_read_nothing(rt: HostRuntime) -> Result<(), Fail> {
     Ok(())
 }
 
-// What a run writes for two keys and a barrier, by the order of the keys in the block.
-const BY_KEY: &str = "o a 5\no b 1\ns 1 -9223372036854775808\nc a c 5\nc b c 1\ne 1 2\n";
-
-const BY_GROUP: &str = "o a 5\no b 1\ns 1 -9223372036854775808\nc b c 1\nc a c 5\ne 1 2\n";
-
-#[test]
-fn words_name_the_key_groups(rt: HostRuntime) -> Result<(), Fail> {
-    let alloc = rt.alloc();
-    for (groups, out) in [("1", BY_KEY), ("4", BY_KEY), ("128", BY_GROUP)] {
-        let events = b"r a 1 5\nr b 2 1\nb 1\n";
-        let mut source = SureSource::new(joined(alloc, &[COUNTER.as_bytes(), events])?);
-        let mut sink = SureSink::new(alloc);
-        let mut err = SureSink::new(alloc);
-        let words = ["--max-parallelism", groups];
-        let status = run_alone(alloc, &words, &mut source, &mut sink, &mut err);
-        assert_eq!(rt; status, Status::Ok, "{groups}");
-        let written = by_key(alloc, sink.bytes())?;
-        assert_eq!(rt; written.as_str(), out, "{groups}");
-    }
-    Ok(())
-}
-
 #[test]
 fn codes_and_lines(rt: HostRuntime) -> Result<(), Fail> {
     let cases = [
@@ -237,82 +215,6 @@ fn bytes_come_and_go_in_any_pieces(rt: HostRuntime) -> Result<(), Fail> {
         for words in &WORDS {
             pieces_of(&rt, words, most)?;
         }
-    }
-    Ok(())
-}
-
-// The row of b asks nothing of a shard, and ends before that of a unless only one may be under way.
-#[test]
-fn a_row_overtakes_another(rt: HostRuntime) -> Result<(), Fail> {
-    let text =
-        b"input 1\nstate c value\non row\nif v1\nput c v1\nend\nemit v1\nend\n%%\nr a 1 5\nr b 2 0\n";
-    let alloc = rt.alloc();
-    for (limit, out) in [("1", "o a 5\no b 0\n"), ("6000", "o b 0\no a 5\n")] {
-        let mut source = SureSource::new(joined(alloc, &[text])?);
-        let mut sink = SureSink::new(alloc);
-        let mut err = SureSink::new(alloc);
-        let words = ["--in-flight", limit];
-        let status = run_alone(alloc, &words, &mut source, &mut sink, &mut err);
-        assert_eq!(rt; status, Status::Ok, "{limit}");
-        assert_eq!(rt; sink.bytes(), out.as_bytes(), "{limit}");
-    }
-    Ok(())
-}
-
-// Seven rows of five keys, and under which words which lines come. Over eight shards those of f, h and b have one, a and g each
-// their own.
-const OVERTAKING: &str = "r a 1 5\nr b 2 1\nr f 3 1\nr g 4 1\nr h 5 1\nr a 5 7\nr b 6 1\n";
-
-// The words, and what is written under them.
-const OVERTAKEN: [(&str, &str, &str); 7] = [
-    (
-        "--batch=1000",
-        "--in-flight=1",
-        "o a 5\no b 1\no f 1\no g 1\no h 1\no a 12\no b 2\n",
-    ),
-    (
-        "--batch=1000",
-        "--in-flight=2",
-        "o b 1\no f 1\no g 1\no h 1\no a 5\no b 2\no a 12\n",
-    ),
-    (
-        "--batch=1000",
-        "--in-flight=6000",
-        "o b 1\no f 1\no h 1\no b 2\no g 1\no a 5\no a 12\n",
-    ),
-    (
-        "--batch=1",
-        "--in-flight=6000",
-        "o g 1\no a 5\no b 1\no a 12\no f 1\no h 1\no b 2\n",
-    ),
-    (
-        "--batch=2",
-        "--in-flight=6000",
-        "o b 1\no f 1\no h 1\no b 2\no g 1\no a 5\no a 12\n",
-    ),
-    (
-        "--shards=1",
-        "--in-flight=6000",
-        "o a 5\no b 1\no f 1\no g 1\no h 1\no a 12\no b 2\n",
-    ),
-    (
-        "--shards=2",
-        "--batch=1",
-        "o a 5\no a 12\no b 1\no f 1\no g 1\no h 1\no b 2\n",
-    ),
-];
-
-#[test]
-fn options_tell_which_key_goes_first(rt: HostRuntime) -> Result<(), Fail> {
-    let alloc = rt.alloc();
-    for (first, second, out) in OVERTAKEN {
-        let events = OVERTAKING.as_bytes();
-        let mut source = SureSource::new(joined(alloc, &[COUNTER.as_bytes(), events])?);
-        let mut sink = SureSink::new(alloc);
-        let mut err = SureSink::new(alloc);
-        let status = run_alone(alloc, &[first, second], &mut source, &mut sink, &mut err);
-        assert_eq!(rt; status, Status::Ok, "{first} {second}");
-        assert_eq!(rt; sink.bytes(), out.as_bytes(), "{first} {second}");
     }
     Ok(())
 }
