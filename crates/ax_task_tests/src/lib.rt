@@ -10,6 +10,4 @@ pub mod inputs;
 #[cfg(test)]
 mod orders;
 #[cfg(test)]
-mod steps;
-#[cfg(test)]
 mod ways;

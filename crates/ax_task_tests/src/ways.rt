@@ -55,30 +55,16 @@ pub fn order_of(alloc: Global, way: &str) -> Result<Nums, Fail> {
     Ok(order)
 }
 
-/// How a run ended, and what it wrote.
-#[derive(Drop)]
-pub struct Run {
-    pub end: End,
-    pub bytes: Bytes,
-}
-
-/// The run of an input in a way.
-pub fn run_by(rt: &(impl Abort + AllocGlobal), way: &str, input: &[u8]) -> Result<Run, Fail> {
+/// What an input writes in a way.
+pub fn bytes_by(rt: &(impl Abort + AllocGlobal), way: &str, input: &[u8]) -> Result<Bytes, Fail> {
     let alloc = rt.alloc();
     let config = config_of(rt, way);
     let order = order_of(alloc, way)?;
     let mut source = SureSource::new(Bytes::from_slice(alloc, input)?);
     let mut sink = SureSink::new(alloc);
     let end = run_task_alone(alloc, &config, order, &mut source, &mut sink);
-    let bytes = Bytes::from_slice(alloc, sink.bytes())?;
-    Ok(Run { end, bytes })
-}
-
-/// What an input writes in a way.
-pub fn bytes_by(rt: &(impl Abort + AllocGlobal), way: &str, input: &[u8]) -> Result<Bytes, Fail> {
-    let run = run_by(rt, way, input)?;
-    assert_eq!(rt; run.end, End::Ok, "{way}");
-    Ok(run.bytes)
+    assert_eq!(rt; end, End::Ok, "{way}");
+    Ok(Bytes::from_slice(alloc, sink.bytes())?)
 }
 
 /// The same, sorted by key between two markers.
